@@ -1,0 +1,5 @@
+pub mod Answers
+pub mod Connected
+pub mod Lanes
+pub mod Refusals
+pub mod Scales
