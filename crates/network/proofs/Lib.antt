@@ -1,1 +1,3 @@
+pub mod Connectedness
+pub mod Offers
 pub mod Tables

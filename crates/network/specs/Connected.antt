@@ -26,6 +26,11 @@ pub data Way (ls : List Lane) : ℕ → ℕ → Type 0 where
 abbrev pub Connected : ℕ → List Lane → Type 0
 Connected depots ls = (a b : ℕ) → a < depots → b < depots → Way ls a b
 
+-- each lane has both ends among the depots
+abbrev pub EndsWithin : ℕ → List Lane → Type 0
+EndsWithin depots [] = Unit {0}
+EndsWithin depots (l ∷ ls) = (l .left < depots) × (l .right < depots) × EndsWithin depots ls
+
 -- ---- the test by labels: each depot has a label, and depots in one part have the same one
 
 -- the label of a lane's end

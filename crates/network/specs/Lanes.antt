@@ -9,8 +9,13 @@ use Rattle.std.specs.declared.option.Option.{Option}
 use Rattle.std.specs.declared.option.Option.the-variants.{Some, None}
 use Rattle.network.specs.Answers.{first-of}
 use Rattle.network.specs.declared.lanes.Lane.{Lane}
+use Rattle.network.specs.declared.lanes.Mark.the-variants.{Struck}
 use Rattle.network.specs.declared.refusals.Refusal.{Refusal}
 use Rattle.network.specs.declared.refusals.Refusal.the-variants.{DepotsOutOfRange, EndsUnfit, ChanceOutOfRange, CostTooHigh, LanesFull}
+
+-- what is read past the end of a list of lanes
+abbrev pub no-lane : Lane
+no-lane = record { left = 0; right = 0; chance = 0; cost = 0; mark = Struck }
 
 abbrev pub most-lanes : ℕ
 most-lanes = 20

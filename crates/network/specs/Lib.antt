@@ -1,5 +1,6 @@
 pub mod Answers
 pub mod Connected
 pub mod Lanes
+pub mod Networks
 pub mod Refusals
 pub mod Scales
