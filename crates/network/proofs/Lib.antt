@@ -1,3 +1,4 @@
 pub mod Connectedness
 pub mod Offers
+pub mod Sets
 pub mod Tables

@@ -4,3 +4,4 @@ pub mod Lanes
 pub mod Networks
 pub mod Refusals
 pub mod Scales
+pub mod Sets
