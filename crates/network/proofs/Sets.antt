@@ -4,22 +4,22 @@ use mathlib.Core.Bool.{Bool, true, false, cond, not, _&&_, _||_}
 use mathlib.Core.List.{List, [], _∷_, _++_}
 use mathlib.Core.Logic.{⊎-elim}
 use Prim.Native.Nat.{ℕ, zero, suc, _+_, _*_, _/_, _%_, _^_, _≤_, _<_}
-use native.Mathlib.Nat.{div-one, mod-lt, pow-suc, pow-zero}
+use native.Mathlib.Nat.{add-zero, div-one, mod-lt, pow-suc, pow-zero}
 use native.Mathlib.Numerals.{add-one, one-add}
 use native.Mathlib.Omega.{arith}
 use lib.Count.{ones, ones-step, ones-le}
 use lib.Dec.{eqb, leb, lit<, ltb}
 use lib.ListN.{length, getD, take}
-use lib.Pow.{pow-pos}
-use Rattle.std.proofs.shelf.Bits.{div-below, shr-split, shr-shr}
+use lib.Pow.{pow-mono, pow-pos}
+use Rattle.std.proofs.shelf.Bits.{div-below, one-shl, shr-split, shr-shr}
 use Rattle.std.proofs.shelf.Lists.{length-take-le, take-more}
-use Rattle.std.proofs.shelf.Tests.{and-from, and-parts, cases-eq, cond-true, cond-false, eq-eqb, ne-eqb, lt-ltb, le-ltb, cases-lt}
+use Rattle.std.proofs.shelf.Tests.{and-from, and-parts, cases-eq, cond-both, cond-true, cond-false, eq-eqb, ne-eqb, lt-ltb, le-ltb, cases-lt}
 use Rattle.std.proofs.shelf.Ways.{tells}
 use Rattle.std.specs.Options.{isSome}
 use Rattle.std.specs.declared.option.Option.{Option}
 use Rattle.std.specs.declared.option.Option.the-variants.{Some, None}
-use Rattle.network.specs.Lanes.{all-sound, no-lane, sound}
-use Rattle.network.specs.Sets.{chosen, given-refusal, kept, set-cost, total-cost}
+use Rattle.network.specs.Lanes.{all-sound, most-lanes, no-lane, sound}
+use Rattle.network.specs.Sets.{chosen, given-refusal, is-standing, kept, set-cost, standing-lanes, standing-set, total-cost}
 use Rattle.network.specs.declared.lanes.Lane.{Lane}
 use Rattle.network.specs.declared.refusals.Refusal.the-variants.{LaneNotGiven}
 
@@ -129,3 +129,62 @@ module _ (S depots s : ℕ) (items ls : List Lane) (same : items ≡ ls) (fit : 
   cost-unnamed none =
       let no-more = ap (λ b. total-cost (kept b (getD ls i no-lane) [])) (ne-eqb (s / 2 ^ i % 2) 1 none) in
       (omega (arith, more), omega arith)
+
+-- ---- the set of all lanes that stand
+
+pub standing-append : (xs : List Lane) (l : Lane) → standing-set (xs ++ (l ∷ [])) ≡ standing-set xs + cond (is-standing l) (2 ^ length xs) 0
+standing-append [] l = omega arith
+standing-append (x ∷ xs) l = cond-both (is-standing l) (2 ^ length xs) 0 (λ n. standing-set (xs ++ (l ∷ [])) ≡ standing-set xs + n → standing-set ((x ∷ xs) ++ (l ∷ [])) ≡ standing-set (x ∷ xs) + 2 * n) (λ _ e. omega arith) (λ _ e. omega arith) (standing-append xs l)
+    ∙ ap (λ (n : ℕ). standing-set (x ∷ xs) + n) (doubled (is-standing l))
+  where
+    doubled : (b : Bool) → 2 * cond b (2 ^ length xs) 0 ≡ cond b (2 ^ suc (length xs)) 0
+    doubled true = omega (arith, pow-suc 2 (length xs))
+    doubled false = refl
+
+digit-below : (b : Bool) → cond b 1 0 < 2
+digit-below true = lit< tt
+digit-below false = lit< tt
+
+pub standing-below : (ls : List Lane) → standing-set ls < 2 ^ length ls
+standing-below [] = lit< tt
+standing-below (l ∷ ls) = omega (arith, standing-below ls, digit-below (is-standing l), pow-suc 2 (length ls))
+
+pub chosen-standing : (ls : List Lane) → chosen (standing-set ls) ls ≡ standing-lanes ls
+chosen-standing [] = refl
+chosen-standing (l ∷ ls) =
+    ap₂ (λ (b : Bool) (s : ℕ). kept b l (chosen s ls)) (low (is-standing l)) (half (is-standing l)) ∙ ap (kept (is-standing l) l) (chosen-standing ls)
+  where
+    low : (b : Bool) → eqb ((cond b 1 0 + 2 * standing-set ls) % 2) 1 ≡ b
+    low true = eq-eqb _ 1 (omega arith)
+    low false = ne-eqb _ 1 (omega arith)
+
+    half : (b : Bool) → (cond b 1 0 + 2 * standing-set ls) / 2 ≡ standing-set ls
+    half true = omega arith
+    half false = omega arith
+
+-- the lanes passed that stand
+abbrev pub StandingSofar : List Lane → ℕ → ℕ → Type 0
+StandingSofar ls i s = s ≡ standing-set (take i ls)
+
+-- the set so far fits, and so does one more lane
+pub standing-fits : (ls : List Lane) (i s : ℕ) → StandingSofar ls i s → i < length ls → i < most-lanes → s + 1 * 2 ^ i % 2 ^ 32 < 2 ^ 32
+standing-fits ls i s so within few =
+    let low : standing-set (take i ls) < 2 ^ i = subst (λ (k : ℕ). standing-set (take i ls) < 2 ^ k) (length-take-le i ls (omega arith)) (standing-below (take i ls)) in
+    let shift = one-shl i 32 (omega arith) in
+    let small : 2 ^ i ≤ 2 ^ 20 = pow-mono {i = i} {j = 20} (omega arith) in
+    omega arith
+
+module _ (items ls : List Lane) (same : items ≡ ls) (i s : ℕ) (within : i < length items) (so : StandingSofar ls i s) where
+  standing-next : (n : ℕ) → cond (is-standing (getD items i no-lane)) (2 ^ i) 0 ≡ n → StandingSofar ls (i + 1) (s + n)
+  standing-next n is =
+      let inside : i < length ls = subst (λ xs. i < length xs) same within in
+      let count = length-take-le i ls (omega arith) in
+      let step = ap standing-set (take-more ls i no-lane inside) ∙ standing-append (take i ls) (getD ls i no-lane) in
+      let here : cond (is-standing (getD ls i no-lane)) (2 ^ length (take i ls)) 0 ≡ n = ap₂ (λ (l : Lane) (k : ℕ). cond (is-standing l) (2 ^ k) 0) (sym (ap (λ xs. getD xs i no-lane) same)) count ∙ is in
+      omega arith
+
+  pub standing-one : is-standing (getD items i no-lane) ≡ true → StandingSofar ls (i + 1) (s + 2 ^ i)
+  standing-one yes-it-does = standing-next (2 ^ i) (cond-true _ _ _ yes-it-does)
+
+  pub standing-none : is-standing (getD items i no-lane) ≡ false → StandingSofar ls (i + 1) s
+  standing-none it-does-not = subst (StandingSofar ls (i + 1)) (add-zero s) (standing-next 0 (cond-false _ _ _ it-does-not))

@@ -2,6 +2,7 @@
 ghost use mathlib.Core.Path.{_≡_};
 ghost use Rattle.network.specs.Answers.{told};
 ghost use Rattle.network.specs.Lanes.{lane-refusal};
+ghost use Rattle.network.specs.Sets.{marked};
 use crate::refusals::Refusal;
 use crate::scales::Scale;
 
@@ -9,6 +10,17 @@ use crate::scales::Scale;
 pub enum Mark {
     Struck = 0,
     Standing = 1,
+}
+
+impl Mark {
+    pub fn stands(self) -> bool
+        ensures { λ r. ⌜ r ≡ marked self ⌝ }
+    {
+        match self {
+            Mark::Struck => false,
+            Mark::Standing => true,
+        }
+    }
 }
 
 // The two ends are in no order. The chance is in parts of the network's scale.

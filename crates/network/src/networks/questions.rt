@@ -2,7 +2,7 @@
 ghost use mathlib.Core.Path.{_≡_};
 ghost use Rattle.network.specs.Answers.{told};
 ghost use Rattle.network.specs.Networks.{lanes-of, most-of};
-ghost use Rattle.network.specs.Sets.{given-refusal, set-cost, set-refusal};
+ghost use Rattle.network.specs.Sets.{given-refusal, set-cost, set-refusal, standing-set};
 use crate::networks::Network;
 use crate::refusals::Refusal;
 
@@ -40,5 +40,18 @@ impl Network {
             }
         }
         Ok(cost)
+    }
+
+    // The set of all lanes that stand.
+    pub fn standing(&self) -> u32
+        ensures { λ r. ⌜ r ≡ standing-set (lanes-of (now (self .entry))) ⌝ }
+    {
+        let mut set = 0;
+        for (i, lane) in self.lanes.iter().enumerate() {
+            if lane.mark.stands() {
+                set += 1 << i;
+            }
+        }
+        set
     }
 }
