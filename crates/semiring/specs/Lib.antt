@@ -1,0 +1,4 @@
+pub mod Cheapest
+pub mod Semirings
+pub mod Shares
+pub mod YesNo

@@ -1,0 +1,53 @@
+ghost use mathlib.Core.Path.{_≡_};
+ghost use Rattle.semiring.specs.Shares.{share, share-ops};
+use crate::Semiring;
+use crate::shares::Share;
+use network::Lane;
+use network::Scale;
+
+impl Share {
+    // Numbers above stand as this one.
+    pub const MOST: u64 = 1_000_000_000_000_000_000;
+
+    pub fn new(parts: u64) -> Share
+        ensures { λ r. ⌜ r ≡ share parts ⌝ }
+    {
+        Share {
+            parts: parts.min(Self::MOST),
+        }
+    }
+
+    pub fn parts(self) -> u64
+        ensures { λ r. ⌜ r ≡ self .parts ⌝ }
+    {
+        self.parts
+    }
+}
+
+pub impl Semiring for Share as ShareSemiring {
+    ghost ops = { share-ops };
+
+    fn zero() -> Share {
+        Share::new(0)
+    }
+
+    fn one() -> Share {
+        Share::new(1)
+    }
+
+    fn sum(self, other: Share) -> Share {
+        Share::new(self.parts.saturating_add(other.parts))
+    }
+
+    fn product(self, other: Share) -> Share {
+        Share::new(self.parts.saturating_mul(other.parts))
+    }
+
+    fn running(lane: &Lane, _scale: Scale) -> Share {
+        Share::new(u64::from(lane.chance))
+    }
+
+    fn failing(lane: &Lane, scale: Scale) -> Share {
+        Share::new(u64::from(scale.parts().saturating_sub(lane.chance)))
+    }
+}
