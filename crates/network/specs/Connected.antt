@@ -44,10 +44,13 @@ relabelled kept gone label = cond (eqb label gone) kept label
 abbrev pub meets : List ℕ → Lane → Bool
 meets labels l = eqb (label-at labels (l .left)) (label-at labels (l .right))
 
+-- the label of the right end becomes that of the left
+abbrev pub merged : List ℕ → Lane → List ℕ
+merged labels l = map (relabelled (label-at labels (l .left)) (label-at labels (l .right))) labels
+
 -- the labels once the lane has made its two ends one part
 abbrev pub labels-after : List ℕ → Lane → List ℕ
-labels-after labels l =
-    cond (meets labels l) labels (map (relabelled (label-at labels (l .left)) (label-at labels (l .right))) labels)
+labels-after labels l = cond (meets labels l) labels (merged labels l)
 
 -- the number of parts once the lane has made its two ends one part
 abbrev pub parts-after : List ℕ → ℕ → Lane → ℕ
