@@ -1,1 +1,3 @@
 pub mod Factoring
+pub mod Meaning
+pub mod Natural

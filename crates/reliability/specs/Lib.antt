@@ -1,2 +1,3 @@
+pub mod Reliability
 pub mod Spread
 pub mod Totals
