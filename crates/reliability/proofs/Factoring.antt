@@ -10,16 +10,11 @@ use Rattle.std.proofs.shelf.Tests.{cond-both, cond-true, cond-false, le-leb, lt
 use Rattle.network.specs.Connected.{connects-from, labels-after, meets, merged, parts-after}
 use Rattle.network.specs.declared.lanes.Lane.{Lane}
 use Rattle.semiring.specs.Semirings.{Laws, Ops}
+use Rattle.reliability.specs.Joining.{Part, none, keep, skip}
 use Rattle.reliability.specs.Spread.{both, spread}
 use Rattle.reliability.specs.Totals.{Fate, runs, fails, part, running-lanes, states, sum-of, total, weight}
 
 -- ---- parts of a list of lanes
-
--- the first list is what is left of the second when some lanes are taken out
-pub data Part : List Lane → List Lane → Type 0 where
-  none : Part [] []
-  keep : {l : Lane} {rs ls : List Lane} → Part rs ls → Part (l ∷ rs) (l ∷ ls)
-  skip : {l : Lane} {rs ls : List Lane} → Part rs ls → Part rs (l ∷ ls)
 
 pub part-length : {rs ls : List Lane} → Part rs ls → length rs ≤ length ls
 part-length none = omega arith

@@ -1,3 +1,4 @@
 pub mod Factoring
+pub mod Joined
 pub mod Meaning
 pub mod Natural

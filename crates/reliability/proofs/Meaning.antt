@@ -15,8 +15,9 @@ use Rattle.network.proofs.Sets.{fit-lane}
 use Rattle.semiring.specs.Semirings.{Laws, Ops}
 use Rattle.semiring.specs.YesNo.{yes-no, yes-no-ops}
 use Rattle.semiring.proofs.Values.{yes-no-laws}
+use Rattle.reliability.specs.Joining.{Part, none, keep, skip}
 use Rattle.reliability.specs.Totals.{Tells, total}
-use Rattle.reliability.proofs.Factoring.{Part, none, keep, skip, total-same, total-split}
+use Rattle.reliability.proofs.Factoring.{total-same, total-split}
 
 -- ---- parts of a list of lanes
 
@@ -84,8 +85,7 @@ module _ (S : ℕ) where
 
   -- the total in yes/no tells whether the lanes connect all depots
   pub yes-connected : (depots : ℕ) → depots ≤ 10 → (ls : List Lane) → EndsWithin depots ls → Decides (total yes-no-ops S (connects depots) ls .yes) (Connected depots ls)
-  yes-connected depots few ls ends =
-      (
-        λ h. let found = some-yes (connects depots) ls h in connects-tells depots ls few ends .0 (connects-more depots few ls ends (found .0) (found .1) (found .2)),
-        λ c. whole-yes (connects depots) ls (connects-tells depots ls few ends .1 c),
-      )
+  yes-connected depots few ls ends = (
+    λ h. let found = some-yes (connects depots) ls h in connects-tells depots ls few ends .0 (connects-more depots few ls ends (found .0) (found .1) (found .2)),
+    λ c. whole-yes (connects depots) ls (connects-tells depots ls few ends .1 c),
+  )

@@ -1,3 +1,4 @@
+pub mod Joining
 pub mod Reliability
 pub mod Spread
 pub mod Totals
