@@ -33,6 +33,10 @@ pub passed : {X : Type 0} (verdict : Option Refusal) (x y : X) → Ok x ≡ told
 passed None x y h = refl
 passed (Some e) x y h = absurd (ok-is-not-err x e h)
 
+pub told-value : {X : Type 0} (verdict : Option Refusal) (x y : X) → Ok x ≡ told verdict y → x ≡ y
+told-value None x y h = cc
+told-value (Some e) x y h = absurd (ok-is-not-err x e h)
+
 pub refused : {X : Type 0} (verdict : Option Refusal) (e : Refusal) (y : X) → Err e ≡ told verdict y → verdict ≡ Some e
 refused None e y h = absurd (ok-is-not-err y e (sym h))
 refused (Some d) e y h = cc

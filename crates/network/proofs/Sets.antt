@@ -13,15 +13,17 @@ use lib.ListN.{length, getD, take}
 use lib.Pow.{pow-mono, pow-pos}
 use Rattle.std.proofs.shelf.Bits.{div-below, one-shl, shr-split, shr-shr}
 use Rattle.std.proofs.shelf.Lists.{length-take-le, take-more}
-use Rattle.std.proofs.shelf.Tests.{and-from, and-parts, cases-eq, cond-both, cond-true, cond-false, eq-eqb, ne-eqb, lt-ltb, le-ltb, cases-lt}
+use Rattle.std.proofs.shelf.Tests.{and-from, and-parts, cases-eq, cond-both, cond-true, cond-false, eq-eqb, ne-eqb, lt-ltb, le-ltb, leb-true, ltb-true, cases-lt}
 use Rattle.std.proofs.shelf.Ways.{tells}
 use Rattle.std.specs.Options.{isSome}
 use Rattle.std.specs.declared.option.Option.{Option}
 use Rattle.std.specs.declared.option.Option.the-variants.{Some, None}
+use Rattle.network.specs.Answers.{first-of}
 use Rattle.network.specs.Lanes.{all-sound, most-lanes, no-lane, sound}
-use Rattle.network.specs.Sets.{chosen, given-refusal, is-standing, kept, set-cost, standing-lanes, standing-set, total-cost}
+use Rattle.network.specs.Sets.{chosen, given-refusal, is-standing, kept, set-cost, set-refusal, size-refusal, standing-lanes, standing-set, total-cost}
 use Rattle.network.specs.declared.lanes.Lane.{Lane}
-use Rattle.network.specs.declared.refusals.Refusal.the-variants.{LaneNotGiven}
+use Rattle.network.specs.declared.refusals.Refusal.{Refusal}
+use Rattle.network.specs.declared.refusals.Refusal.the-variants.{LaneNotGiven, TooManyLanesNamed}
 
 -- ---- refusals
 
@@ -103,6 +105,37 @@ fit-at S depots [] i h within = absurd (omega arith)
 fit-at S depots (l ∷ ls) zero h within = fit-lane S depots l (and-parts (sound S depots l) (all-sound S depots ls) h .0)
 fit-at S depots (l ∷ ls) (suc i) h within = fit-at S depots ls i (and-parts (sound S depots l) (all-sound S depots ls) h .1) (omega arith)
 
+sound-kept : (S depots : ℕ) (b : Bool) (l : Lane) (ls : List Lane) → sound S depots l ≡ true → all-sound S depots ls ≡ true → all-sound S depots (kept b l ls) ≡ true
+sound-kept S depots true l ls one rest = and-from _ _ one rest
+sound-kept S depots false l ls one rest = rest
+
+-- the lanes that a set names are as sound as all
+pub sound-chosen : (S depots s : ℕ) (ls : List Lane) → all-sound S depots ls ≡ true → all-sound S depots (chosen s ls) ≡ true
+sound-chosen S depots s [] fit = refl
+sound-chosen S depots s (l ∷ ls) fit =
+    let parts = and-parts (sound S depots l) (all-sound S depots ls) fit in
+    sound-kept S depots (eqb (s % 2) 1) l (chosen (s / 2) ls) (parts .0) (sound-chosen S depots (s / 2) ls (parts .1))
+
+some-is-not-none : (e : Refusal) → _≡_ {A = Option Refusal} (Some e) None → ⊥
+some-is-not-none e h = let z : _≡_ {A = ℕ} 0 1 = cc in omega arith
+
+first-none : (a b : Option Refusal) → first-of a b ≡ None → (a ≡ None) × (b ≡ None)
+first-none None b h = (refl, h)
+first-none (Some e) b h = absurd (some-is-not-none e h)
+
+cond-none : (b : Bool) (e : Refusal) → cond b None (Some e) ≡ None → b ≡ true
+cond-none true e h = refl
+cond-none false e h = absurd (some-is-not-none e h)
+
+pub given-below : (ls : List Lane) (s : ℕ) → given-refusal ls s ≡ None → s < 2 ^ length ls
+given-below ls s h = ltb-true s (2 ^ length ls) (cond-none (ltb s (2 ^ length ls)) LaneNotGiven h)
+
+-- a set that is not refused names lanes that were given, and at most K of them
+pub set-fine : (K : ℕ) (ls : List Lane) (s : ℕ) → set-refusal K ls s ≡ None → (given-refusal ls s ≡ None) × (length (chosen s ls) ≡ ones s) × (ones s ≤ K)
+set-fine K ls s h =
+    let parts = first-none (given-refusal ls s) (size-refusal K s) h in
+    (parts .0, chosen-count s ls (given-below ls s (parts .0)), leb-true (ones s) K (cond-none (leb (ones s) K) TooManyLanesNamed (parts .1)))
+
 -- ---- the cost of a set, lane by lane
 
 -- what the first i lanes cost, with a bound that shows that the sum fits
@@ -161,6 +194,13 @@ chosen-standing (l ∷ ls) =
     half : (b : Bool) → (cond b 1 0 + 2 * standing-set ls) / 2 ≡ standing-set ls
     half true = omega arith
     half false = omega arith
+
+pub standing-few : (ls : List Lane) → length (standing-lanes ls) ≤ length ls
+standing-few [] = omega arith
+standing-few (l ∷ ls) = omega (arith, standing-few ls, kept-length (is-standing l) l (standing-lanes ls), digit-below (is-standing l))
+
+pub standing-given : (ls : List Lane) → given-refusal ls (standing-set ls) ≡ None
+standing-given ls = cond-true _ _ _ (lt-ltb (standing-set ls) (2 ^ length ls) (standing-below ls))
 
 -- the lanes passed that stand
 abbrev pub StandingSofar : List Lane → ℕ → ℕ → Type 0

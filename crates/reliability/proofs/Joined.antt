@@ -20,9 +20,9 @@ use Rattle.network.proofs.Connectedness.{connects-tells}
 use Rattle.network.proofs.Sets.{fit-lane}
 use Rattle.semiring.specs.Cheapest.{absent, cheapest, cheapest-ops}
 use Rattle.semiring.proofs.Values.{cheapest-laws}
-use Rattle.reliability.specs.Joining.{Cheapest-joining, Least, Part, none, keep, skip, joining-cost, present}
+use Rattle.reliability.specs.Joining.{Cheapest-joining, Least, Part, none, keep, skip, joining-cost}
 use Rattle.reliability.specs.Totals.{total}
-use Rattle.reliability.proofs.Factoring.{total-split}
+use Rattle.reliability.proofs.Splitting.{total-split}
 use Rattle.reliability.proofs.Meaning.{ends-part, sound-ends}
 
 module _ (S depots : ℕ) where

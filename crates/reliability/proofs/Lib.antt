@@ -1,4 +1,8 @@
-pub mod Factoring
+pub mod Chances
+pub mod Choosing
+pub mod Splitting
+pub mod Stepping
+pub mod Filling
 pub mod Joined
 pub mod Meaning
 pub mod Natural

@@ -4,6 +4,7 @@ use mathlib.Core.Bool.{Bool, true, false, cond, _||_}
 use mathlib.Core.List.{List, [], _∷_}
 use mathlib.Core.Logic.{_⊎_, inl, inr, ⊎-elim}
 use Prim.Native.Nat.{ℕ, _≤_}
+use native.Mathlib.Omega.{arith}
 use Rattle.std.proofs.shelf.Tests.{and-parts, or-cases, or-left}
 use Rattle.std.proofs.shelf.Ways.{same-from-decides}
 use Rattle.std.specs.Orderings.{Decides}
@@ -17,7 +18,7 @@ use Rattle.semiring.specs.YesNo.{yes-no, yes-no-ops}
 use Rattle.semiring.proofs.Values.{yes-no-laws}
 use Rattle.reliability.specs.Joining.{Part, none, keep, skip}
 use Rattle.reliability.specs.Totals.{Tells, total}
-use Rattle.reliability.proofs.Factoring.{total-same, total-split}
+use Rattle.reliability.proofs.Splitting.{total-same, total-split}
 
 -- ---- parts of a list of lanes
 
@@ -25,6 +26,10 @@ pub ends-part : (depots : ℕ) {rs ls : List Lane} → Part rs ls → EndsWithin
 ends-part depots none ends = tt
 ends-part depots (keep p) ends = (ends .0, ends .1, ends-part depots p (ends .2))
 ends-part depots (skip p) ends = ends-part depots p (ends .2)
+
+pub ends-wider : (n : ℕ) {m : ℕ} → n ≤ m → (ls : List Lane) → EndsWithin n ls → EndsWithin m ls
+ends-wider n wider [] ends = tt
+ends-wider n wider (l ∷ ls) ends = (omega arith, omega arith, ends-wider n wider ls (ends .2))
 
 adjacent-part : {rs ls : List Lane} → Part rs ls → (a b : ℕ) → Adjacent rs a b → Adjacent ls a b
 adjacent-part none a b h = h

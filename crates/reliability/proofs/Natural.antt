@@ -19,7 +19,7 @@ use Rattle.semiring.proofs.Values.{share-same}
 use Rattle.reliability.specs.Reliability.{natural-ops}
 use Rattle.reliability.specs.Spread.{both, spread}
 use Rattle.reliability.specs.Totals.{Fate, runs, fails, part, running-lanes, states, sum-of, total, weight}
-use Rattle.reliability.proofs.Factoring.{total-split, total-all}
+use Rattle.reliability.proofs.Splitting.{total-split, total-all}
 
 pub natural-laws : Laws natural-ops
 natural-laws =

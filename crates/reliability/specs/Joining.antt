@@ -1,16 +1,13 @@
 -- The joining cost: the cheapest cost of lanes that connect all depots, or absent.
 use mathlib.Core.Path.{_≡_}
-use mathlib.Core.Bool.{cond}
 use mathlib.Core.List.{List, [], _∷_}
 use Prim.Native.Nat.{ℕ, _≤_}
-use lib.Dec.{eqb}
 use Rattle.std.specs.Options.{Cases}
 use Rattle.std.specs.declared.option.Option.{Option}
-use Rattle.std.specs.declared.option.Option.the-variants.{Some, None}
 use Rattle.network.specs.Connected.{Connected, connects}
 use Rattle.network.specs.Sets.{total-cost}
 use Rattle.network.specs.declared.lanes.Lane.{Lane}
-use Rattle.semiring.specs.Cheapest.{absent, cheapest-ops}
+use Rattle.semiring.specs.Cheapest.{cheapest-ops, present}
 use Rattle.reliability.specs.Totals.{total}
 
 -- the first list is what is left of the second when some lanes are taken out
@@ -18,10 +15,6 @@ pub data Part : List Lane → List Lane → Type 0 where
   none : Part [] []
   keep : {l : Lane} {rs ls : List Lane} → Part rs ls → Part (l ∷ rs) (l ∷ ls)
   skip : {l : Lane} {rs ls : List Lane} → Part rs ls → Part rs (l ∷ ls)
-
--- a cost, unless it is the figure that means absent
-abbrev pub present : ℕ → Option ℕ
-present cost = cond (eqb cost absent) None (Some cost)
 
 -- the total in which the lesser counts and costs add
 abbrev pub joining-cost : ℕ → ℕ → List Lane → Option ℕ

@@ -1,4 +1,6 @@
 pub mod Joining
+pub mod Questions
 pub mod Reliability
 pub mod Spread
+pub mod Tasks
 pub mod Totals

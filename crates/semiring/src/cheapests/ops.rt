@@ -1,5 +1,5 @@
 ghost use mathlib.Core.Path.{_≡_};
-ghost use Rattle.semiring.specs.Cheapest.{cheapest, cheapest-ops};
+ghost use Rattle.semiring.specs.Cheapest.{cheapest, cheapest-ops, present};
 use crate::Semiring;
 use crate::cheapests::Cheapest;
 use network::Lane;
@@ -12,10 +12,15 @@ impl Cheapest {
         Cheapest { cost }
     }
 
-    pub fn cost(self) -> u32
-        ensures { λ r. ⌜ r ≡ self .cost ⌝ }
+    // The cost, unless it is absent.
+    pub fn present(self) -> Option<u32>
+        ensures { λ r. ⌜ r ≡ present (self .cost) ⌝ }
     {
-        self.cost
+        if self.cost == u32::MAX {
+            None
+        } else {
+            Some(self.cost)
+        }
     }
 }
 

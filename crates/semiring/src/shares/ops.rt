@@ -1,4 +1,6 @@
 ghost use mathlib.Core.Path.{_≡_};
+ghost use Prim.Native.Nat.{_*_, min};
+ghost use Rattle.network.specs.Scales.{full-limit};
 ghost use Rattle.semiring.specs.Shares.{share, share-ops};
 use crate::Semiring;
 use crate::shares::Share;
@@ -24,6 +26,18 @@ impl Share {
     }
 }
 
+// In twice the width, which compiles to one multiplication.
+fn multiply(a: u64, b: u64) -> u64
+    ensures { λ r. ⌜ r ≡ min (a * b) full-limit ⌝ }
+{
+    let wide = u128::from(a) * u128::from(b);
+    if wide < u128::from(Share::MOST) {
+        wide as u64
+    } else {
+        Share::MOST
+    }
+}
+
 pub impl Semiring for Share as ShareSemiring {
     ghost ops = { share-ops };
 
@@ -36,11 +50,13 @@ pub impl Semiring for Share as ShareSemiring {
     }
 
     fn sum(self, other: Share) -> Share {
-        Share::new(self.parts.saturating_add(other.parts))
+        Share::new(self.parts + other.parts)
     }
 
     fn product(self, other: Share) -> Share {
-        Share::new(self.parts.saturating_mul(other.parts))
+        Share {
+            parts: multiply(self.parts, other.parts),
+        }
     }
 
     fn running(lane: &Lane, _scale: Scale) -> Share {

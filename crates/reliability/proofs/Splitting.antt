@@ -38,10 +38,10 @@ stays-apart labels parts (l ∷ rs) few =
 -- ---- sums and products
 
 module _ {V : Type 0} (o : Ops V) (laws : Laws o) where
-  sum-zero-right : (a : V) → o .sum a (o .zero) ≡ a
+  pub sum-zero-right : (a : V) → o .sum a (o .zero) ≡ a
   sum-zero-right a = laws .sum-comm a (o .zero) ∙ laws .sum-zero a
 
-  product-zero-right : (a : V) → o .product a (o .zero) ≡ o .zero
+  pub product-zero-right : (a : V) → o .product a (o .zero) ≡ o .zero
   product-zero-right a = laws .product-comm a (o .zero) ∙ laws .product-zero a
 
   sum-append : (us vs : List V) → sum-of o (us ++ vs) ≡ o .sum (sum-of o us) (sum-of o vs)
