@@ -2,7 +2,7 @@
 use mathlib.Core.Path.{_≡_}
 use mathlib.Core.Bool.{Bool, cond}
 use mathlib.Core.List.{List, _++_}
-use Prim.Native.Nat.{ℕ, _-_, _*_, _^_}
+use Prim.Native.Nat.{ℕ}
 use lib.Dec.{ltb}
 use lib.ListN.{drop, length, replicate}
 use Rattle.std.specs.Options.{isSome}
@@ -21,7 +21,7 @@ use Rattle.network.specs.declared.refusals.Refusal.{Refusal}
 use Rattle.network.specs.declared.refusals.Refusal.the-variants.{ScratchTooShort}
 use Rattle.semiring.specs.Semirings.{Ops}
 use Rattle.semiring.specs.YesNo.{yes-no-ops}
-use Rattle.reliability.specs.Reliability.{natural-ops}
+use Rattle.reliability.specs.Reliability.{lanes-chance}
 use Rattle.reliability.specs.Totals.{Tells, total}
 
 -- as many places of scratch as there are lanes at most, and one
@@ -53,10 +53,9 @@ pub record Totalled {V : Type 0} (o : Ops V) (network : Network) (s : ℕ) (befo
 abbrev pub question-refusal : Network → ℕ → Option Refusal
 question-refusal network s = set-refusal (most-of network) (lanes-of network) s
 
--- the chance in parts of S^K, by a test of connectedness
+-- the chance of a set, by a test of connectedness
 abbrev pub chance-by : (List Lane → Bool) → Network → ℕ → ℕ
-chance-by test network s =
-    set-total natural-ops test network s * parts-of network ^ (most-of network - length (named network s))
+chance-by test network s = lanes-chance (parts-of network) (most-of network) test (named network s)
 
 -- The chance of a set is its all-terminal reliability, whichever way connectedness is told.
 pub record Chance (network : Network) (s : ℕ) (r : Result ℕ Refusal) : Type 0 where

@@ -1,6 +1,11 @@
--- The natural numbers as a semiring: the total in them is the all-terminal reliability of a lanes, in parts of S^a.
-use Prim.Native.Nat.{ℕ, _+_, _-_, _*_}
+-- All-terminal reliability: the total in plain natural numbers, of a lanes in parts of S^a, and so in parts of the full scale S^K.
+use mathlib.Core.Bool.{Bool}
+use mathlib.Core.List.{List}
+use Prim.Native.Nat.{ℕ, _+_, _-_, _*_, _^_}
+use lib.ListN.{length}
+use Rattle.network.specs.declared.lanes.Lane.{Lane}
 use Rattle.semiring.specs.Semirings.{Ops}
+use Rattle.reliability.specs.Totals.{total}
 
 -- a lane of chance p runs with p parts of S, and fails with the others
 abbrev pub natural-ops : Ops ℕ
@@ -13,3 +18,7 @@ natural-ops =
       running = λ S l. l .chance;
       failing = λ S l. S - l .chance;
     }
+
+-- the chance that a list of lanes connects all depots, as the test tells it, in parts of S^K
+abbrev pub lanes-chance : ℕ → ℕ → (List Lane → Bool) → List Lane → ℕ
+lanes-chance S K test ls = total natural-ops S test ls * S ^ (K - length ls)
