@@ -6,9 +6,15 @@ mod refusals;
 mod scales;
 
 pub use lanes::Lane;
+pub use lanes::LaneDebug;
+pub use lanes::LanePartialEq;
 pub use lanes::Mark;
+pub use lanes::MarkDebug;
+pub use lanes::MarkPartialEq;
 pub use networks::LaneRoom;
 pub use networks::Network;
 pub use refusals::Refusal;
+pub use refusals::RefusalDebug;
+pub use refusals::RefusalPartialEq;
 pub use scales::Scale;
 pub use scales::limit_at;
