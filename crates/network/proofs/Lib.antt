@@ -1,4 +1,5 @@
 pub mod Connectedness
+pub mod Masks
 pub mod Offers
 pub mod Sets
 pub mod Tables

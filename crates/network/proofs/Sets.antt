@@ -18,6 +18,7 @@ use Rattle.std.proofs.shelf.Ways.{tells}
 use Rattle.std.specs.Options.{isSome}
 use Rattle.std.specs.declared.option.Option.{Option}
 use Rattle.std.specs.declared.option.Option.the-variants.{Some, None}
+use Rattle.network.proofs.Masks.{half-below}
 use Rattle.network.specs.Answers.{first-of}
 use Rattle.network.specs.Lanes.{all-sound, most-lanes, no-lane, sound}
 use Rattle.network.specs.Sets.{chosen, given-refusal, is-standing, kept, set-cost, set-refusal, size-refusal, standing-lanes, standing-set, total-cost}
@@ -58,16 +59,13 @@ chosen-append s (x ∷ xs) ys =
     half-shift : (n k : ℕ) → n / 2 / 2 ^ k ≡ n / 2 ^ suc k
     half-shift n k = shr-shr n 1 k ∙ ap (λ (j : ℕ). n / 2 ^ j) (one-add k)
 
-kept-length : (b : Bool) (l : Lane) (xs : List Lane) → length (kept b l xs) ≡ cond b 1 0 + length xs
+pub kept-length : (b : Bool) (l : Lane) (xs : List Lane) → length (kept b l xs) ≡ cond b 1 0 + length xs
 kept-length true l xs = omega arith
 kept-length false l xs = omega arith
 
 -- the lowest digit as a test
-digit : (s : ℕ) → cond (eqb (s % 2) 1) 1 0 ≡ s % 2
+pub digit : (s : ℕ) → cond (eqb (s % 2) 1) 1 0 ≡ s % 2
 digit s = grind (arith, tells, mod-lt s (pow-pos 1))
-
-pub half-below : (s k : ℕ) → s < 2 ^ suc k → s / 2 < 2 ^ k
-half-below s k low = div-below s 2 (2 ^ k) (lit< tt) (subst (λ (n : ℕ). s < n) (pow-suc 2 k) low)
 
 -- a set of given lanes names as many lanes as its number has ones
 pub chosen-count : (s : ℕ) (ls : List Lane) → s < 2 ^ length ls → length (chosen s ls) ≡ ones s

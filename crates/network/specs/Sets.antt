@@ -14,6 +14,10 @@ use Rattle.network.specs.declared.lanes.Mark.the-variants.{Struck, Standing}
 use Rattle.network.specs.declared.refusals.Refusal.{Refusal}
 use Rattle.network.specs.declared.refusals.Refusal.the-variants.{LaneNotGiven, TooManyLanesNamed}
 
+-- 1 if the set has lane i, else 0
+abbrev pub bit : ℕ → ℕ → ℕ
+bit s i = s / 2 ^ i % 2
+
 abbrev pub marked : Mark → Bool
 marked Struck = false
 marked Standing = true

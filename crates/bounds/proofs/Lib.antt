@@ -1,0 +1,4 @@
+pub mod Covers
+pub mod Isolation
+pub mod Monotone
+pub mod Within

@@ -1,0 +1,4 @@
+pub mod Depots
+pub mod Meaning
+pub mod Numbers
+pub mod Questions
