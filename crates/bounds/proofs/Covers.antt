@@ -32,19 +32,21 @@ use Rattle.bounds.proofs.Within.{chosen-few, chosen-part}
 pub lawful-tells : (a : Asked) → Decides (lawful a) (Lawful a)
 lawful-tells a = (
   λ passes.
-      let one = and-parts _ _ passes in
-      let two = and-parts _ _ (one .1) in
-      let three = and-parts _ _ (two .1) in
+      let all = and-parts _ _ passes in
+      let stand = and-parts _ _ (all .0) in
+      let first = and-parts _ _ (stand .0) in
       record {
-        apart = and-apart (a .picked) (a .undecided) (eqb-true _ 0 (one .0));
-        picked-stand = and-within (a .picked) (standing-set (a .lanes)) (eqb-true _ (a .picked) (two .0));
-        undecided-stand = and-within (a .undecided) (standing-set (a .lanes)) (eqb-true _ (a .undecided) (three .0));
-        few-picked = leb-true (ones (a .picked)) (a .most) (three .1);
+        apart = and-apart (a .picked) (a .undecided) (eqb-true _ 0 (first .0));
+        picked-stand = and-within (a .picked) (standing-set (a .lanes)) (eqb-true _ (a .picked) (first .1));
+        undecided-stand = and-within (a .undecided) (standing-set (a .lanes)) (eqb-true _ (a .undecided) (stand .1));
+        few-picked = leb-true (ones (a .picked)) (a .most) (all .1);
       },
   λ law.
-      and-from _ _ (eq-eqb _ 0 (apart-and (a .picked) (a .undecided) (law .apart)))
-      (and-from _ _ (eq-eqb _ (a .picked) (within-and (a .picked) (standing-set (a .lanes)) (law .picked-stand)))
-      (and-from _ _ (eq-eqb _ (a .undecided) (within-and (a .undecided) (standing-set (a .lanes)) (law .undecided-stand))) (le-leb (ones (a .picked)) (a .most) (law .few-picked)))),
+      and-from _ _
+      (and-from _ _
+      (and-from _ _ (eq-eqb _ 0 (apart-and (a .picked) (a .undecided) (law .apart))) (eq-eqb _ (a .picked) (within-and (a .picked) (standing-set (a .lanes)) (law .picked-stand))))
+      (eq-eqb _ (a .undecided) (within-and (a .undecided) (standing-set (a .lanes)) (law .undecided-stand))))
+      (le-leb (ones (a .picked)) (a .most) (law .few-picked)),
 )
 
 -- what holds of the number for lawful questions holds of what is told

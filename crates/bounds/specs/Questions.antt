@@ -58,9 +58,9 @@ pub record Lawful (a : Asked) : Type 0 where
 -- the same as a test on the sets' numbers
 abbrev pub lawful : Asked → Bool
 lawful a =
-    eqb (bitAnd (a .picked) (a .undecided)) 0
-    && (eqb (bitAnd (a .picked) (standing-set (a .lanes))) (a .picked)
-    && (eqb (bitAnd (a .undecided) (standing-set (a .lanes))) (a .undecided) && leb (ones (a .picked)) (a .most)))
+    ((eqb (bitAnd (a .picked) (a .undecided)) 0 && eqb (bitAnd (a .picked) (standing-set (a .lanes))) (a .picked))
+    && eqb (bitAnd (a .undecided) (standing-set (a .lanes))) (a .undecided))
+    && leb (ones (a .picked)) (a .most)
 
 -- the full scale
 abbrev pub full : Asked → ℕ
