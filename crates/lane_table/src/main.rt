@@ -1,4 +1,15 @@
-// Prints every set of the three-depot network's lanes with its cost, its chance and whether it connects; then the joining cost.
+// Prints every set of the three-depot network's lanes with its cost, its chance and whether it connects; then the joining cost,
+// what the upper bounds tell, and the worked examples.
+use bounds::Bound;
+use bounds::Depot;
+use bounds::DepotBound;
+use bounds::Lesser;
+use bounds::LesserBound;
+use bounds::Plain;
+use bounds::PlainBound;
+use bounds::Question;
+use bounds::Whole;
+use bounds::WholeBound;
 use network::LaneRoom;
 use network::Mark;
 use network::Network;
@@ -73,6 +84,28 @@ fn print_table(rt: &LibcRuntime, network: &Network) -> Result<(), AnyError> {
     Ok(())
 }
 
+// What each bound tells for nothing picked and all standing lanes undecided.
+fn print_bounds(rt: &LibcRuntime, network: &Network) -> Result<(), AnyError> {
+    let question = Question {
+        network,
+        picked: 0,
+        undecided: network.standing(),
+    };
+    let lesser = Lesser {
+        first: Depot,
+        second: Whole,
+    };
+    println!(rt, "bound plain {}", Plain.tell(question))?;
+    println!(rt, "bound depot {}", Depot.tell(question))?;
+    println!(rt, "bound whole {}", Whole.tell(question))?;
+    println!(
+        rt,
+        "bound lesser of depot and whole {}",
+        lesser.tell(question)
+    )?;
+    Ok(())
+}
+
 fn print_examples(rt: &LibcRuntime) -> Result<(), AnyError> {
     let heap = rt.alloc();
     let told = answers(
@@ -86,6 +119,7 @@ fn print_examples(rt: &LibcRuntime) -> Result<(), AnyError> {
             Answer::Chance(parts) => println!(rt, "  chance {parts}")?,
             Answer::JoiningCost(Some(cost)) => println!(rt, "  joining cost {cost}")?,
             Answer::JoiningCost(None) => println!(rt, "  joining cost absent")?,
+            Answer::Bound(number) => println!(rt, "  depot bound {number}")?,
         }
     }
     Ok(())
@@ -94,5 +128,6 @@ fn print_examples(rt: &LibcRuntime) -> Result<(), AnyError> {
 fn main(rt: LibcRuntime) -> Result<(), AnyError> {
     let network = three_depots(LaneRoom::reserve(rt.alloc())?, Mark::Standing);
     print_table(&rt, &network)?;
+    print_bounds(&rt, &network)?;
     print_examples(&rt)
 }

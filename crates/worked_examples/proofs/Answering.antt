@@ -11,9 +11,11 @@ use Rattle.network.specs.declared.networks.Network.{Network}
 use Rattle.reliability.specs.Joining.{joining-cost}
 use Rattle.reliability.specs.Questions.{chance-by}
 use Rattle.reliability.specs.Reliability.{lanes-chance}
-use Rattle.worked_examples.specs.Examples.{answer, chance-of, joining-cost-of, most, parts}
+use Rattle.bounds.specs.Numbers.{depot-tells}
+use Rattle.bounds.specs.Questions.{asked-of-network}
+use Rattle.worked_examples.specs.Examples.{answer, chance-of, depot-bound-of, joining-cost-of, most, parts}
 use Rattle.worked_examples.specs.declared.Answer.{Answer}
-use Rattle.worked_examples.specs.declared.Answer.the-variants.{Chance, JoiningCost}
+use Rattle.worked_examples.specs.declared.Answer.the-variants.{Chance, JoiningCost, Bound}
 
 module _ (network : Network) (n : ℕ) (ls : List Lane) (made : Made network parts most n ls) where
   pub chance-told : (s : ℕ) (told : Answer) → told ≡ Chance (chance-by (connects (depots-of network)) network s) → told ≡ answer (chance-of n ls s)
@@ -23,3 +25,8 @@ module _ (network : Network) (n : ℕ) (ls : List Lane) (made : Made network par
   pub joining-told : (told : Option ℕ) → told ≡ joining-cost (parts-of network) (depots-of network) (standing-lanes (lanes-of network)) → JoiningCost told ≡ answer (joining-cost-of n ls)
   joining-told told is =
       ap JoiningCost (is ∙ (λ i. joining-cost (made .scale i) (made .depots i) (standing-lanes (made .lanes i))))
+
+  pub bound-told : (picked undecided told : ℕ) → told ≡ depot-tells (asked-of-network network picked undecided) → Bound told ≡ answer (depot-bound-of n ls picked undecided)
+  bound-told picked undecided told is =
+      ap Bound
+      (is ∙ (λ i. depot-tells (record { parts = made .scale i; most = made .most i; depots = made .depots i; lanes = made .lanes i; picked = picked; undecided = undecided })))

@@ -10,8 +10,9 @@ use Rattle.network.specs.declared.lanes.Mark.{Mark}
 use Rattle.network.specs.declared.lanes.Mark.the-variants.{Struck, Standing}
 use Rattle.reliability.specs.Joining.{joining-cost}
 use Rattle.reliability.specs.Reliability.{lanes-chance}
+use Rattle.bounds.specs.Numbers.{depot-tells}
 use Rattle.worked_examples.specs.declared.Answer.{Answer}
-use Rattle.worked_examples.specs.declared.Answer.the-variants.{Chance, JoiningCost}
+use Rattle.worked_examples.specs.declared.Answer.the-variants.{Chance, JoiningCost, Bound}
 
 abbrev lane : ℕ → ℕ → ℕ → ℕ → Mark → Lane
 lane left right chance cost mark = record { left = left; right = right; chance = chance; cost = cost; mark = mark }
@@ -34,11 +35,14 @@ most = 4
 pub data Question : Type 0 where
   chance-of : (depots : ℕ) → List Lane → (set : ℕ) → Question
   joining-cost-of : (depots : ℕ) → List Lane → Question
+  depot-bound-of : (depots : ℕ) → List Lane → (picked undecided : ℕ) → Question
 
 -- the answer by the definitions
 abbrev pub answer : Question → Answer
 answer (chance-of depots ls set) = Chance (lanes-chance parts most (connects depots) (chosen set ls))
 answer (joining-cost-of depots ls) = JoiningCost (joining-cost parts depots (standing-lanes ls))
+answer (depot-bound-of depots ls picked undecided) =
+    Bound (depot-tells (record { parts = parts; most = most; depots = depots; lanes = ls; picked = picked; undecided = undecided }))
 
 pub record Example : Type 0 where
   pub question : Question
@@ -55,6 +59,7 @@ examples =
     ∷ example (chance-of 4 ring 15) (Chance 9477)
     ∷ example (joining-cost-of 3 (three-depots Standing)) (JoiningCost (Some 9))
     ∷ example (joining-cost-of 3 (three-depots Struck)) (JoiningCost None)
+    ∷ example (depot-bound-of 4 ring 0 15) (Bound 9900)
     ∷ []
 
 abbrev pub answers : List Answer

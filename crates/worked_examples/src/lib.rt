@@ -6,6 +6,10 @@ ghost use Rattle.network.specs.Connected.{connects};
 ghost use Rattle.network.specs.Networks.{Made, depots-of};
 ghost use Rattle.reliability.specs.Questions.{chance-by, question-refusal};
 ghost use Rattle.worked_examples.specs.Examples.{Examples-hold, expected-answers, most, parts, ring, three-depots};
+use bounds::Bound;
+use bounds::Depot;
+use bounds::DepotBound;
+use bounds::Question;
 use network::Lane;
 use network::LaneRoom;
 use network::Mark;
@@ -17,10 +21,11 @@ use reliability::joining_cost;
 pub enum Answer {
     Chance(u64),
     JoiningCost(Option<u32>),
+    Bound(u64),
 }
 
 // The number of examples in the list.
-pub const EXAMPLES: usize = 6;
+pub const EXAMPLES: usize = 7;
 
 const PARTS: u16 = 10;
 
@@ -100,6 +105,12 @@ pub fn answers(first: LaneRoom, second: LaneRoom, third: LaneRoom) -> [Answer; E
     let three = three_depots(first, Mark::Standing);
     let ring = ring_of_four(second);
     let struck = three_depots(third, Mark::Struck);
+    let question = Question {
+        network: &ring,
+        picked: 0,
+        undecided: 15,
+    };
+    let depot = Depot.tell(question);
     [
         ask_chance(&three, 0),
         ask_chance(&three, 3),
@@ -107,5 +118,6 @@ pub fn answers(first: LaneRoom, second: LaneRoom, third: LaneRoom) -> [Answer; E
         ask_chance(&ring, 15),
         Answer::JoiningCost(joining_cost(&three)),
         Answer::JoiningCost(joining_cost(&struck)),
+        Answer::Bound(depot),
     ]
 }

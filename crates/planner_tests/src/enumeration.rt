@@ -1,7 +1,7 @@
 // A second computation of chances, connectedness and joining costs, state by state, that shares no code with the library.
+use crate::draws::lanes_of;
 use network::Lane;
 use network::LaneRoom;
-use network::Mark;
 use network::Network;
 use network::RefusalDebug;
 use network::RefusalPartialEq;
@@ -10,41 +10,7 @@ use reliability::connected;
 use reliability::joining_cost;
 use std::test::*;
 
-const LANES: usize = 5;
-
 const PARTS: u64 = 10;
-
-const PAIRS: [(u8, u8); 6] = [(0, 1), (1, 2), (2, 3), (3, 0), (0, 2), (1, 3)];
-
-// Five lanes on four depots, another five for each number.
-fn lanes_of(number: u32) -> [Lane; LANES] {
-    let mut lanes = [Lane {
-        left: 0,
-        right: 1,
-        chance: 1,
-        cost: 0,
-        mark: Mark::Standing,
-    }; LANES];
-    let mut draw = number;
-    for lane in lanes.iter_mut() {
-        draw = draw.wrapping_mul(1_103_515_245).wrapping_add(12_345) % 0x8000_0000;
-        let (left, right) = PAIRS[(draw / 65_536 % 6) as usize];
-        let chance = 1 + (draw / 1024 % 10) as u16;
-        let mark = if draw / 4096 % 4 == 0 {
-            Mark::Struck
-        } else {
-            Mark::Standing
-        };
-        *lane = Lane {
-            left,
-            right,
-            chance,
-            cost: draw / 512 % 30,
-            mark,
-        };
-    }
-    lanes
-}
 
 fn names(set: u32, lane: usize) -> bool {
     lane < 32 && (set >> lane) % 2 == 1
