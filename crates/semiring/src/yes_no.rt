@@ -34,10 +34,10 @@ pub impl Semiring for YesNo as YesNoSemiring {
     }
 
     fn running(_lane: &Lane, _scale: Scale) -> YesNo {
-        YesNo { yes: true }
+        Self::one()
     }
 
-    fn failing(_lane: &Lane, _scale: Scale) -> YesNo {
-        YesNo { yes: true }
+    fn failing(lane: &Lane, scale: Scale) -> YesNo {
+        Self::running(lane, scale)
     }
 }

@@ -48,6 +48,6 @@ pub impl Semiring for Cheapest as CheapestSemiring {
     }
 
     fn failing(_lane: &Lane, _scale: Scale) -> Cheapest {
-        Cheapest::new(0)
+        Self::one()
     }
 }
