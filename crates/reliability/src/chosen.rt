@@ -5,10 +5,10 @@ ghost use lib.ListN.{length, take};
 ghost use Rattle.network.specs.Sets.{chosen};
 use network::Lane;
 
-pub const MOST_LANES: usize = 20;
+pub(crate) const MOST_LANES: usize = 20;
 
 // Puts the set's lanes into the first places of the table, in their order, and tells how many there are.
-pub fn choose(lanes: &[Lane], set: u32, table: &mut [Lane; MOST_LANES]) -> usize
+pub(crate) fn choose(lanes: &[Lane], set: u32, table: &mut [Lane; MOST_LANES]) -> usize
     requires { ⌜ length (now lanes) ≤ 20 ⌝ }
     ensures few { λ r. ⌜ r ≤ length (now (lanes .entry)) ⌝ }
     ensures named { λ r. ⌜ take r (now (table .exit)) ≡ chosen set (now (lanes .entry)) ⌝ }

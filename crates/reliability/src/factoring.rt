@@ -133,7 +133,12 @@ fn factor_all<'a, V: Semiring>(lanes: &'a [Lane], scale: Scale, depots: u8, rest
 }
 
 // The total of the lanes, worked out in the scratch, whose first places are cleared after it.
-pub fn factor_lanes<V: Semiring>(lanes: &[Lane], scale: Scale, depots: u8, scratch: &mut [V]) -> V
+pub(crate) fn factor_lanes<V: Semiring>(
+    lanes: &[Lane],
+    scale: Scale,
+    depots: u8,
+    scratch: &mut [V],
+) -> V
     requires two { ⌜ 2 ≤ depots ⌝ }
     requires ends { ⌜ EndsWithin 10 (now lanes) ⌝ }
     requires few { ⌜ length (now lanes) < scratch-places ⌝ }

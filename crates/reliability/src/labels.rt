@@ -4,9 +4,9 @@ ghost use mathlib.Core.Path.{_≡_};
 ghost use Prim.Native.Nat.{_<_};
 ghost use Rattle.network.specs.Connected.{label-at, relabelled};
 
-pub const DEPOTS: usize = 10;
+pub(crate) const DEPOTS: usize = 10;
 
-pub fn label_of(labels: &[u8; DEPOTS], depot: u8) -> u8
+pub(crate) fn label_of(labels: &[u8; DEPOTS], depot: u8) -> u8
     requires { ⌜ depot < 10 ⌝ }
     ensures { λ r. ⌜ r ≡ label-at (now (labels .entry)) depot ⌝ }
 {
@@ -20,7 +20,7 @@ fn replace(label: u8, from: u8, to: u8) -> u8
 }
 
 // The part with the label `from` gets the label `to`.
-pub fn relabel(labels: &[u8; DEPOTS], from: u8, to: u8) -> [u8; DEPOTS]
+pub(crate) fn relabel(labels: &[u8; DEPOTS], from: u8, to: u8) -> [u8; DEPOTS]
     ensures { λ r. ⌜ r ≡ map (relabelled to from) (now (labels .entry)) ⌝ }
 {
     let mut merged = *labels;

@@ -1,8 +1,11 @@
 // The way in for a network, and what it tells of itself.
 ghost use mathlib.Core.Path.{_≡_};
 ghost use mathlib.Core.List.{[]};
+ghost use Prim.Native.Nat.{_≤_};
+ghost use Rattle.std.specs.Of.Vec.{vec-cap, vec-items};
+ghost use Rattle.std.specs.Vec.{made};
 ghost use Rattle.network.specs.Answers.{Told};
-ghost use Rattle.network.specs.Lanes.{depots-refusal};
+ghost use Rattle.network.specs.Lanes.{depots-refusal, most-lanes};
 ghost use Rattle.network.specs.Networks.{Added, Made, lanes-of, network-refusal};
 use crate::lanes::Lane;
 use crate::networks::LaneRoom;
@@ -14,7 +17,9 @@ use std::alloc::Global;
 
 impl LaneRoom {
     // The only call on a network that can lack memory.
-    pub fn reserve(heap: Global) -> Result<LaneRoom, AllocError> {
+    pub fn reserve(heap: Global) -> Result<LaneRoom, AllocError>
+        ensures { λ r. ⌜ made r (λ room. (vec-items (room .lanes) ≡ []) × (most-lanes ≤ vec-cap (room .lanes))) ⌝ }
+    {
         Ok(LaneRoom {
             lanes: Vec::with_capacity(heap, Network::MOST_LANES)?,
         })
