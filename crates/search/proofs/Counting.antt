@@ -128,12 +128,17 @@ module _ (p : Problem) (n : ℕ) (full : Full-count p n) where
           ∙ full .all-made
           ∙ omega arith
 
-  pub none-after : (w : ℕ) → n ≤ w → open-many p w (start p) .pending ≡ []
-  none-after w past =
+  -- from the full count on nothing changes
+  after-all : (w : ℕ) → n ≤ w → open-many p w (start p) ≡ open-many p n (start p)
+  after-all w past =
       let split : n + (w - n) ≡ w = omega arith in
-      ap (λ (k : ℕ). open-many p k (start p) .pending) (sym split)
-      ∙ ap (λ x. x .pending) (many-sum p n (w - n) (start p) ∙ idle p (w - n) (open-many p n (start p)) (full .none-pending))
-      ∙ full .none-pending
+      ap (λ (k : ℕ). open-many p k (start p)) (sym split) ∙ many-sum p n (w - n) (start p) ∙ idle p (w - n) (open-many p n (start p)) (full .none-pending)
+
+  pub ended-same : (w v : ℕ) → n ≤ w → n ≤ v → open-many p w (start p) ≡ open-many p v (start p)
+  ended-same w v one two = after-all w one ∙ sym (after-all v two)
+
+  pub none-after : (w : ℕ) → n ≤ w → open-many p w (start p) .pending ≡ []
+  none-after w past = ap (λ x. x .pending) (after-all w past) ∙ full .none-pending
 
   -- before the full count something is pending
   pub pending-before : (w : ℕ) → w < n → open-many p w (start p) .pending ≡ [] → ⊥

@@ -1,3 +1,4 @@
 pub mod Counting
 pub mod Covering
+pub mod Outcomes
 pub mod Tops
