@@ -9,11 +9,11 @@ use lib.Count.{ones}
 use lib.Dec.{ltb}
 use lib.ListN.{length}
 use lib.Pow.{pow-add}
-use Rattle.std.proofs.shelf.Tests.{cond-false, le-ltb}
+use Rattle.std.proofs.shelf.Tests.{cond-false, cond-true, le-ltb, lt-ltb}
 use Rattle.std.specs.Options.{isSome}
 use Rattle.std.specs.declared.option.Option.the-variants.{Some, None}
 use Rattle.std.specs.declared.result.Result.{Result}
-use Rattle.std.specs.declared.result.Result.the-variants.{Ok}
+use Rattle.std.specs.declared.result.Result.the-variants.{Ok, Err}
 use Rattle.network.specs.Answers.{first-of, told}
 use Rattle.network.specs.Connected.{EndsWithin, connects}
 use Rattle.network.specs.Lanes.{all-sound}
@@ -40,6 +40,23 @@ module _ (network : Network) (s : ℕ) where
 
   pub ends-named : EndsWithin (depots-of network) (named network s)
   ends-named = sound-ends (parts-of network) (depots-of network) (named network s) sound-named
+
+  -- the answer of a total that is refused
+  pub total-refused : {V : Type 0} (o : Ops V) (before : List V) (r : Result V Refusal) (e : Refusal) → r ≡ Err e → total-refusal network s (length before) ≡ Some e → Totalled o network s before r before
+  total-refused o before r e is verdict =
+      record {
+        answer = is ∙ sym (ap (λ w. told w (set-total o (connects (depots-of network)) network s)) verdict);
+        meant = λ test tells. is ∙ sym (ap (λ w. told w (set-total o test network s)) verdict);
+        scratch = sym (cond-true _ _ _ (ap isSome verdict));
+      }
+
+  -- the refusals of a total in their order
+  pub not-given-first : (e : Refusal) (places : ℕ) → given-refusal (lanes-of network) s ≡ Some e → total-refusal network s places ≡ Some e
+  not-given-first e places h = ap (λ w. first-of w (cond (ltb places scratch-places) (Some ScratchTooShort) None)) h
+
+  pub then-too-short : (places : ℕ) → given-refusal (lanes-of network) s ≡ None → places < scratch-places → total-refusal network s places ≡ Some ScratchTooShort
+  then-too-short places h short =
+      ap (λ w. first-of w (cond (ltb places scratch-places) (Some ScratchTooShort) None)) h ∙ cond-true _ _ _ (lt-ltb places scratch-places short)
 
   -- the answer of a total that is not refused
   pub total-answered : {V : Type 0} (o : Ops V) → Laws o → (before : List V) (v : V) (after : List V) → given-refusal (lanes-of network) s ≡ None → scratch-places ≤ length before → v ≡ set-total o (connects (depots-of network)) network s → after ≡ cleared o before → Totalled o network s before (Ok v) after

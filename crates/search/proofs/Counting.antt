@@ -109,6 +109,18 @@ module _ (p : Problem) (means : Meaning (p .tell)) (known : (b : Branch) → Che
 -- ---- what the full count says of any number of openings
 
 module _ (p : Problem) (n : ℕ) (full : Full-count p n) where
+  -- from the full count on nothing changes
+  after-all : (w : ℕ) → n ≤ w → open-many p w (start p) ≡ open-many p n (start p)
+  after-all w past =
+      let split : n + (w - n) ≡ w = omega arith in
+      ap (λ (k : ℕ). open-many p k (start p)) (sym split) ∙ many-sum p n (w - n) (start p) ∙ idle p (w - n) (open-many p n (start p)) (full .none-pending)
+
+  pub ended-same : (w v : ℕ) → n ≤ w → n ≤ v → open-many p w (start p) ≡ open-many p v (start p)
+  ended-same w v one two = after-all w one ∙ sym (after-all v two)
+
+  pub none-after : (w : ℕ) → n ≤ w → open-many p w (start p) .pending ≡ []
+  none-after w past = ap (λ x. x .pending) (after-all w past) ∙ full .none-pending
+
   -- the lesser of the openings granted and the full count are made
   pub openings-told : (w : ℕ) → open-many p w (start p) .openings ≡ min w n
   openings-told w = ⊎-elim (λ less. before w (omega arith) ∙ omega arith) (λ past. after past) (cases-lt w n)
@@ -121,24 +133,7 @@ module _ (p : Problem) (n : ℕ) (full : Full-count p n) where
           omega (arith, full .all-made, many-more p w (start p))
 
       after : n ≤ w → open-many p w (start p) .openings ≡ min w n
-      after past =
-          let split : n + (w - n) ≡ w = omega arith in
-          ap (λ (k : ℕ). open-many p k (start p) .openings) (sym split)
-          ∙ ap (λ x. x .openings) (many-sum p n (w - n) (start p) ∙ idle p (w - n) (open-many p n (start p)) (full .none-pending))
-          ∙ full .all-made
-          ∙ omega arith
-
-  -- from the full count on nothing changes
-  after-all : (w : ℕ) → n ≤ w → open-many p w (start p) ≡ open-many p n (start p)
-  after-all w past =
-      let split : n + (w - n) ≡ w = omega arith in
-      ap (λ (k : ℕ). open-many p k (start p)) (sym split) ∙ many-sum p n (w - n) (start p) ∙ idle p (w - n) (open-many p n (start p)) (full .none-pending)
-
-  pub ended-same : (w v : ℕ) → n ≤ w → n ≤ v → open-many p w (start p) ≡ open-many p v (start p)
-  ended-same w v one two = after-all w one ∙ sym (after-all v two)
-
-  pub none-after : (w : ℕ) → n ≤ w → open-many p w (start p) .pending ≡ []
-  none-after w past = ap (λ x. x .pending) (after-all w past) ∙ full .none-pending
+      after past = ap (λ x. x .openings) (after-all w past) ∙ full .all-made ∙ omega arith
 
   -- before the full count something is pending
   pub pending-before : (w : ℕ) → w < n → open-many p w (start p) .pending ≡ [] → ⊥

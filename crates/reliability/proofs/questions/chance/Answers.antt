@@ -18,7 +18,7 @@ fine : (c : After-from-2) → question-refusal (c .args .network .now) (c .args 
 fine c = passed _ tt tt (c .in-Continue-check-set .ensures tt)
 
 share-is : (c : After-from-2) → c .in-Continue-share .share ≡ set-total share-ops (connects (depots-of (c .args .network .now))) (c .args .network .now) (c .args .set)
-share-is c = told-value (total-refusal (c .args .network .now) (c .args .set) 21) _ _ (c .in-Continue-share .ensures tt .answer)
+share-is c = told-value (total-refusal (c .args .network .now) (c .args .set) 21) _ _ (c .in-Continue-share .ensures tt .totalled .answer)
 
 -- the power by its scale
 power-is : (c : After-from-2) → c .from-2 .result ^ (c .from .result - ones (c .args .set)) ≡ parts-of (c .args .network .now) ^ (most-of (c .args .network .now) - ones (c .args .set))

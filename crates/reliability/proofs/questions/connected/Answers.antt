@@ -17,7 +17,7 @@ returns c =
     let network = c .args .network .now in
     let s = c .args .set in
     let fine = passed (question-refusal network s) tt tt (c .in-Continue-check-set .ensures tt) in
-    let is = ap (λ v. v .yes) (told-value (total-refusal network s 21) _ (set-total yes-no-ops (connects (depots-of network)) network s) (c .in-Continue-joined .ensures tt .answer)) in
+    let is = ap (λ v. v .yes) (told-value (total-refusal network s 21) _ (set-total yes-no-ops (connects (depots-of network)) network s) (c .in-Continue-joined .ensures tt .totalled .answer)) in
     record {
       answer = ap Ok is ∙ sym (ap (λ v. told v (set-total yes-no-ops (connects (depots-of network)) network s .yes)) fine);
       meant = subst (λ (b : Bool). Decides b (Connected (depots-of network) (named network s))) (sym is) (yes-connected (parts-of network) (depots-of network) (network .ten) (named network s) (ends-named network s));

@@ -23,7 +23,7 @@ pub unreachable-requires : need.unreachable-requires
 unreachable-requires c κs =
     let network = c .args .network .now in
     let given = ap (given-refusal (lanes-of network)) (c .standing .ensures) ∙ standing-given (lanes-of network) in
-    c .in-rest .not-Ok _ (c .total .ensures .answer ∙ ap (λ v. told (first-of v None) (set-total cheapest-ops (connects (depots-of network)) network (c .standing .result))) given)
+    c .in-rest .not-Ok _ (c .total .ensures .totalled .answer ∙ ap (λ v. told (first-of v None) (set-total cheapest-ops (connects (depots-of network)) network (c .standing .result))) given)
 
 pub returns : need.returns
 returns c =
@@ -32,7 +32,7 @@ returns c =
     let n = depots-of network in
     let ls = lanes-of network in
     let o = cheapest-ops in
-    let same = told-value (total-refusal network (c .standing .result) 21) _ (set-total o (connects n) network (c .standing .result)) (c .in-Ok .ensures tt .answer) in
+    let same = told-value (total-refusal network (c .standing .result) 21) _ (set-total o (connects n) network (c .standing .result)) (c .in-Ok .ensures tt .totalled .answer) in
     let at-standing = ap (λ s. set-total o (connects n) network s) (c .standing .ensures) ∙ ap (total o S (connects n)) (chosen-standing ls) in
     let value : c .present .result ≡ joining-cost S n (standing-lanes ls) = c .present .ensures ∙ ap (λ v. present (v .cost)) (same ∙ at-standing) in
     let fit = subst (λ ks. all-sound S n ks ≡ true) (chosen-standing ls) (sound-named network (standing-set ls)) in
