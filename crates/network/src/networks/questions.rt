@@ -28,18 +28,24 @@ impl Network {
         Ok(())
     }
 
-    // The sum of the costs of the set's lanes.
-    pub fn cost(&self, set: u32) -> Result<u32, Refusal>
-        ensures { λ r. ⌜ r ≡ told (set-refusal (most-of (now (self .entry))) (lanes-of (now (self .entry))) set) (set-cost set (lanes-of (now (self .entry)))) ⌝ }
+    // The sum of the costs of the set's lanes, those that were not given left out.
+    pub fn sum_costs(&self, set: u32) -> u32
+        ensures { λ r. ⌜ r ≡ set-cost set (lanes-of (now (self .entry))) ⌝ }
     {
-        self.check_set(set)?;
         let mut cost = 0;
         for (i, lane) in self.lanes.iter().enumerate() {
             if (set >> i) % 2 == 1 {
                 cost += lane.cost;
             }
         }
-        Ok(cost)
+        cost
+    }
+
+    pub fn cost(&self, set: u32) -> Result<u32, Refusal>
+        ensures { λ r. ⌜ r ≡ told (set-refusal (most-of (now (self .entry))) (lanes-of (now (self .entry))) set) (set-cost set (lanes-of (now (self .entry)))) ⌝ }
+    {
+        self.check_set(set)?;
+        Ok(self.sum_costs(set))
     }
 
     // The set of all lanes that stand.

@@ -9,8 +9,8 @@ use Rattle.network.specs.Networks.{lanes-of, most-of}
 use Rattle.network.specs.Sets.{set-cost, set-refusal}
 use Rattle.network.proofs.Offers.{passed}
 use Rattle.network.proofs.Sets.{CostSofar, cost-named, cost-unnamed}
-use Rattle.network.proofs.networks.Network.cost.Needs as need
-use Rattle.network.proofs.networks.Network.cost.Needs.{then-set-i-eq1, else-set-i-eq1}
+use Rattle.network.proofs.networks.Network.sum_costs.Needs as need
+use Rattle.network.proofs.networks.Network.sum_costs.Needs.{then-set-i-eq1, else-set-i-eq1}
 
 pub add-cost : need.add-cost
 add-cost c =
@@ -35,6 +35,4 @@ pub returns : need.returns
 returns c =
     let network = c .args .self .now in
     let past : length (lanes-of network) ≤ c .loop-i .i = omega (arith, ap length (c .deref-lane-items .ensures .value)) in
-    let all = c .loop-i .inv .0 ∙ ap (set-cost (c .args .set)) (take-all _ (lanes-of network) past) in
-    ap Ok all
-    ∙ sym (ap (λ v. told v (set-cost (c .args .set) (lanes-of network))) (passed (set-refusal (most-of network) (lanes-of network) (c .args .set)) tt tt (c .in-Continue-check-set .ensures tt)))
+    c .loop-i .inv .0 ∙ ap (set-cost (c .args .set)) (take-all _ (lanes-of network) past)
