@@ -18,8 +18,10 @@ use Rattle.network.proofs.Sets.{chosen-count, chosen-standing, standing-below}
 use Rattle.bounds.specs.Meaning.{Meaning}
 use Rattle.bounds.specs.Questions.{Checked}
 use Rattle.search.proofs.Covering.{Holds, Sound, begins, step, top}
-use Rattle.search.proofs.Tops.{ones-rest}
-use Rattle.search.specs.Opening.{Branch, Problem, Progress, branches-after, dropped, highest, open-from, open-many, open-one, question, start, with-lane, without}
+use Rattle.search.proofs.Tops.{Top, ones-rest}
+use Rattle.search.specs.Keeping.{all-work, work}
+use Rattle.search.specs.Opening.{Problem, Progress, branches-after, dropped, highest, open-from, open-many, open-one, question, start, with-lane, without}
+use Rattle.search.specs.declared.branches.Branch.{Branch}
 use Rattle.search.specs.Plans.{Full-count}
 
 -- ---- openings add up
@@ -51,30 +53,24 @@ many-more p (suc n) x = omega (arith, many-more p n (open-one p x), one-more p (
 
 -- ---- the work that branches may take
 
-abbrev work : Branch → ℕ
-work b = 2 ^ suc (ones (b .undecided)) - 1
-
-abbrev all-work : List Branch → ℕ
-all-work [] = 0
-all-work (b ∷ bs) = work b + all-work bs
-
 work-some : (b : Branch) → 1 ≤ work b
 work-some b = omega (arith, pow-suc 2 (ones (b .undecided)), pow-pos (ones (b .undecided)))
 
+-- a branch that is split takes one opening, and leaves the work of its two halves
+split-work : (b : Branch) → Top (b .undecided) → work (without b) + work (with-lane b) + 1 ≡ work b
+split-work b above =
+    let fewer = ones-rest (b .undecided) above in
+    let left = ones (b .undecided - 2 ^ highest (b .undecided)) in
+    let power = ap (λ (k : ℕ). 2 ^ suc k) (fewer ∙ add-one left) in
+    omega (arith, power, pow-suc 2 (suc left), pow-suc 2 left, pow-pos left)
+
+-- an opening leaves less work
+pub less-work : (b : Branch) (rest : List Branch) → (0 < b .undecided → Top (b .undecided)) → (drop leaf : Bool) → eqb (b .undecided) 0 ≡ leaf → all-work (cond drop rest (cond leaf rest (without b ∷ (with-lane b ∷ rest)))) + 1 ≤ all-work (b ∷ rest)
+less-work b rest above true leaf is = omega (arith, work-some b)
+less-work b rest above false true is = omega (arith, work-some b)
+less-work b rest above false false is = let differ = eqb-false (b .undecided) 0 is in omega (arith, split-work b (above (omega arith)))
+
 module _ (p : Problem) (means : Meaning (p .tell)) (known : (b : Branch) → Checked (question p b)) where
-  -- a branch that is split takes one opening, and leaves the work of its two halves
-  split-work : (b : Branch) → Sound p b → 0 < b .undecided → work (without b) + work (with-lane b) + 1 ≡ work b
-  split-work b sound some =
-      let fewer = ones-rest (b .undecided) (top p means known b sound some) in
-      let left = ones (b .undecided - 2 ^ highest (b .undecided)) in
-      let power = ap (λ (k : ℕ). 2 ^ suc k) (fewer ∙ add-one left) in
-      omega (arith, power, pow-suc 2 (suc left), pow-suc 2 left, pow-pos left)
-
-  less-work : (b : Branch) (rest : List Branch) → Sound p b → (drop leaf : Bool) → eqb (b .undecided) 0 ≡ leaf → all-work (cond drop rest (cond leaf rest (without b ∷ (with-lane b ∷ rest)))) + 1 ≤ all-work (b ∷ rest)
-  less-work b rest sound true leaf is = omega (arith, work-some b)
-  less-work b rest sound false true is = omega (arith, work-some b)
-  less-work b rest sound false false is = let differ = eqb-false (b .undecided) 0 is in omega (arith, split-work b sound (omega arith))
-
   -- the search from here on ends within the work that its branches may take
   record Ends (x : Progress) : Type 0 where
     count : ℕ
@@ -87,7 +83,7 @@ module _ (p : Problem) (means : Meaning (p .tell)) (known : (b : Branch) → Che
   ends-from zero (b ∷ rest) best made holds low = absurd (omega (arith, work-some b))
   ends-from (suc fuel) (b ∷ rest) best made holds low =
       let y = open-from p (b ∷ rest) best made in
-      let less = less-work b rest (holds .rising .1) (dropped p best b) (eqb (b .undecided) 0) refl in
+      let less = less-work b rest (top p means known b (holds .rising .1)) (dropped p best b) (eqb (b .undecided) 0) refl in
       let later = ends-from fuel (y .pending) (y .best) (y .openings) (step p means known (record { pending = b ∷ rest; best = best; openings = made }) holds) (omega arith) in
       record {
         count = suc (later .count);

@@ -23,8 +23,9 @@ use Rattle.reliability.specs.Joining.{Part, none, keep, skip}
 use Rattle.bounds.specs.Meaning.{Meaning, Possible}
 use Rattle.bounds.specs.Questions.{Asked, Checked, Lawful}
 use Rattle.bounds.proofs.Within.{chosen-part}
-use Rattle.search.specs.Opening.{Branch, Problem, Progress, best-after, branches-after, chance-of, cost-of, dropped, highest, open-from, open-many, open-one, opened, question, reaches, start, too-dear, with-lane, without}
+use Rattle.search.specs.Opening.{Problem, Progress, best-after, branches-after, chance-of, cost-of, dropped, highest, open-from, open-many, open-one, opened, question, reaches, start, too-dear, with-lane, without}
 use Rattle.search.proofs.Tops.{Top, bit-other, bit-own, ones-rest, ones-within, rest-top, split-bits, top-of}
+use Rattle.search.specs.declared.branches.Branch.{Branch}
 use Rattle.search.specs.Plans.{Answers, Before, Cheapest, Full-count, Plan, Standing-set}
 
 -- ---- costs and counts of sets within sets

@@ -2,3 +2,4 @@ pub mod Counting
 pub mod Covering
 pub mod Outcomes
 pub mod Tops
+pub mod Stepping

@@ -16,7 +16,8 @@ use Rattle.bounds.specs.Meaning.{Meaning}
 use Rattle.bounds.specs.Questions.{Checked}
 use Rattle.search.proofs.Counting.{counted, ended-same, none-after, openings-told, pending-before}
 use Rattle.search.proofs.Covering.{answers}
-use Rattle.search.specs.Opening.{Branch, Problem, Progress, open-many, question, start}
+use Rattle.search.specs.Opening.{Problem, Progress, open-many, question, start}
+use Rattle.search.specs.declared.branches.Branch.{Branch}
 use Rattle.search.specs.Plans.{Answers, Cheapest, Full-count, Outcome, Plan, Status, ended-status, found, most-granted, none-found, status-from, status-of, working}
 
 -- ---- statuses are told apart

@@ -8,7 +8,7 @@ use native.Mathlib.Omega.{arith}
 use lib.Count.{leadingZeros, ones, ones-cat, ones-le, ones-ones, ones-step}
 use lib.Dec.{eqb, lit<}
 use lib.Pow.{pow-mono, pow-pos}
-use Rattle.std.proofs.shelf.Bits.{div-below, leading-top}
+use Rattle.std.proofs.shelf.Bits.{div-below, leading-top, one-shl}
 use Rattle.std.proofs.shelf.Tests.{cases-eq, cases-lt, eq-eqb, ne-eqb, cond-true, cond-false}
 use Rattle.network.specs.Sets.{bit}
 use Rattle.network.proofs.Masks.{bit-first, bit-half, bit-low, bit-none, bit-sum, half-below}
@@ -96,3 +96,7 @@ module _ (u : ℕ) (top : Top u) where
   ones-rest =
       let together : 1 * 2 ^ highest u + rest ≡ u = omega (arith, whole) in
       ap ones (sym together) ∙ ones-cat (highest u) 1 rest rest-low ∙ omega (arith, ones-ones 1)
+
+-- the shift that the code takes for the highest lane
+pub shifted : (u : ℕ) → (1 * 2 ^ highest u) % 2 ^ 32 ≡ 2 ^ highest u
+shifted u = one-shl (highest u) 32 (omega arith)

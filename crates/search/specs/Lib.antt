@@ -1,2 +1,5 @@
+pub mod Deciding
+pub mod Keeping
 pub mod Opening
 pub mod Plans
+pub mod Searching

@@ -11,6 +11,7 @@ use Rattle.network.specs.Sets.{chosen, set-cost, standing-set}
 use Rattle.network.specs.declared.lanes.Lane.{Lane}
 use Rattle.reliability.specs.Reliability.{lanes-chance}
 use Rattle.bounds.specs.Questions.{Asked}
+use Rattle.search.specs.declared.branches.Branch.{Branch}
 
 -- what is searched: the network's parts, the least chance that reaches the goal, and the upper bound that is asked
 pub record Problem : Type 0 where
@@ -20,11 +21,6 @@ pub record Problem : Type 0 where
   pub lanes : List Lane
   pub least : ℕ
   pub tell : Asked → ℕ
-
--- the sets that have all picked lanes and otherwise only undecided ones
-pub record Branch : Type 0 where
-  pub picked : ℕ
-  pub undecided : ℕ
 
 -- the branches still to be opened, the newest first; the best set so far; and how many openings were made
 pub record Progress : Type 0 where
@@ -100,6 +96,12 @@ abbrev pub open-many : Problem → ℕ → Progress → Progress
 open-many p zero progress = progress
 open-many p (suc n) progress = open-many p n (open-one p progress)
 
--- after a change: nothing picked, all standing lanes undecided
+-- after a change with a goal: nothing picked, all standing lanes undecided; without one nothing is pending
+abbrev pub start-over : List Lane → Progress
+start-over ls = record { pending = record { picked = 0; undecided = standing-set ls } ∷ []; best = None; openings = 0 }
+
+abbrev pub none-started : Progress
+none-started = record { pending = []; best = None; openings = 0 }
+
 abbrev pub start : Problem → Progress
-start p = record { pending = record { picked = 0; undecided = standing-set (p .lanes) } ∷ []; best = None; openings = 0 }
+start p = start-over (p .lanes)

@@ -10,7 +10,9 @@ use Rattle.std.specs.Options.{Cases}
 use Rattle.std.specs.declared.option.Option.{Option}
 use Rattle.std.specs.declared.option.Option.the-variants.{Some, None}
 use Rattle.network.specs.Sets.{bit, standing-lanes, standing-set}
-use Rattle.search.specs.Opening.{Branch, Problem, Progress, cost-of, open-many, reaches, start}
+use Rattle.search.specs.declared.branches.Branch.{Branch}
+use Rattle.search.specs.Keeping.{most-openings}
+use Rattle.search.specs.Opening.{Problem, Progress, cost-of, open-many, reaches, start}
 
 -- at most K lanes, all standing
 pub record Standing-set (p : Problem) (s : ℕ) : Type 0 where
@@ -59,7 +61,7 @@ status-of x = status-from (x .pending) (x .best)
 
 -- the most openings that one grant may make
 abbrev pub most-granted : ℕ
-most-granted = 2097151
+most-granted = most-openings
 
 -- What is told of a search that was granted w openings since its start, of which the full count is how many the rule makes.
 pub record Outcome (p : Problem) (w : ℕ) (x : Progress) : Type 0 where
