@@ -97,7 +97,7 @@ module _ (p : Problem) (means : Meaning (p .tell)) (known : (b : Branch) → Che
 
   -- ---- a branch that is dropped has no plan under it that the best set does not cover
 
-  dear-covered : (best : Option ℕ) (b : Branch) (s : ℕ) → above best ≤ b .picked → too-dear p best (b .picked) ≡ true → Under b s → Covers p best s
+  dear-covered : (best : Option ℕ) (b : Branch) (s : ℕ) → above best ≤ b .picked → too-dear (p .lanes) best (b .picked) ≡ true → Under b s → Covers p best s
   dear-covered None b s low dear under = absurd (false≢true dear)
   dear-covered (Some t) b s low dear under =
       let cheap = leb-true (cost-of p t) (cost-of p (b .picked)) dear in
@@ -129,7 +129,7 @@ module _ (p : Problem) (means : Meaning (p .tell)) (known : (b : Branch) → Che
       (λ few. bound-no-plan b s sound few (ltb-true _ (p .least) below) under plan)
       (cases-lt (p .most) (ones (b .picked))))
       (or-cases (ltb (p .most) (ones (b .picked))) _ other)))
-      (or-cases (too-dear p best (b .picked)) _ drops)
+      (or-cases (too-dear (p .lanes) best (b .picked)) _ drops)
 
   -- ---- a branch that is split
 
@@ -222,13 +222,13 @@ module _ (p : Problem) (means : Meaning (p .tell)) (known : (b : Branch) → Che
 
     module _ (kept : dropped p best b ≡ false) where
       few-picked : ones (b .picked) ≤ p .most
-      few-picked = ltb-false (p .most) (ones (b .picked)) (or-parts _ _ (or-parts (too-dear p best (b .picked)) _ kept .1) .0)
+      few-picked = ltb-false (p .most) (ones (b .picked)) (or-parts _ _ (or-parts (too-dear (p .lanes) best (b .picked)) _ kept .1) .0)
 
       -- the picked lanes are cheaper than a best set
-      cheaper : (t : ℕ) → too-dear p (Some t) (b .picked) ≡ false → cost-of p (b .picked) < cost-of p t
+      cheaper : (t : ℕ) → too-dear (p .lanes) (Some t) (b .picked) ≡ false → cost-of p (b .picked) < cost-of p t
       cheaper t not-dear = leb-false (cost-of p t) (cost-of p (b .picked)) not-dear
 
-      new-best-covers : (old : Option ℕ) → too-dear p old (b .picked) ≡ false → (s : ℕ) → Covers p old s → Covers p (Some (b .picked)) s
+      new-best-covers : (old : Option ℕ) → too-dear (p .lanes) old (b .picked) ≡ false → (s : ℕ) → Covers p old s → Covers p (Some (b .picked)) s
       new-best-covers None not-dear s covers = absurd covers
       new-best-covers (Some t) not-dear s covers =
           let less = cheaper t not-dear in
@@ -242,7 +242,7 @@ module _ (p : Problem) (means : Meaning (p .tell)) (known : (b : Branch) → Che
             covered = λ s plan.
                 plan-here (λ t. Pending rest t ⊎ Covers p (Some (b .picked)) t) s plan
                 (λ under. inr (inl (sym (under-one b s empty under)))) inl
-                (λ covers. inr (new-best-covers best (or-parts (too-dear p best (b .picked)) _ kept .0) s covers));
+                (λ covers. inr (new-best-covers best (or-parts (too-dear (p .lanes) best (b .picked)) _ kept .0) s covers));
             planned = record { standing = record { stand = sound .picked-stand; few = few-picked }; reached = reached };
           }
 

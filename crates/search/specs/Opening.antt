@@ -50,9 +50,9 @@ abbrev pub reaches : Problem → ℕ → Bool
 reaches p s = leb (p .least) (chance-of p s)
 
 -- there is a best set and the picked lanes cost as much or more
-abbrev pub too-dear : Problem → Option ℕ → ℕ → Bool
-too-dear p None picked = false
-too-dear p (Some best) picked = leb (cost-of p best) (cost-of p picked)
+abbrev pub too-dear : List Lane → Option ℕ → ℕ → Bool
+too-dear ls None picked = false
+too-dear ls (Some best) picked = leb (set-cost best ls) (set-cost picked ls)
 
 -- the number of the highest lane of a set of 32 lanes that is not empty
 abbrev pub highest : ℕ → ℕ
@@ -60,7 +60,7 @@ highest s = 31 - leadingZeros 32 s
 
 -- a branch that leads nowhere: too dear, too many lanes, or a bound below the goal
 abbrev pub dropped : Problem → Option ℕ → Branch → Bool
-dropped p best b = too-dear p best (b .picked) || (ltb (p .most) (ones (b .picked)) || ltb (p .tell (question p b)) (p .least))
+dropped p best b = too-dear (p .lanes) best (b .picked) || (ltb (p .most) (ones (b .picked)) || ltb (p .tell (question p b)) (p .least))
 
 abbrev pub without : Branch → Branch
 without b = record { picked = b .picked; undecided = b .undecided - 2 ^ highest (b .undecided) }

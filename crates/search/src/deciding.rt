@@ -4,8 +4,11 @@ ghost use Prim.Native.Nat.{_+_, _^_, _≤_, _<_};
 ghost use lib.Count.{ones};
 ghost use lib.Dec.{leb};
 ghost use lib.ListN.{length};
-ghost use Rattle.network.specs.Networks.{lanes-of, most-of};
-ghost use Rattle.search.specs.Deciding.{decided, network-chance, network-too-dear, problem-of};
+ghost use Rattle.network.specs.Connected.{connects};
+ghost use Rattle.network.specs.Networks.{depots-of, lanes-of, most-of};
+ghost use Rattle.reliability.specs.Questions.{chance-by};
+ghost use Rattle.search.specs.Deciding.{decided, problem-of};
+ghost use Rattle.search.specs.Opening.{too-dear};
 use crate::branches::Branch;
 use crate::branches::Opening;
 use bounds::Bound;
@@ -24,7 +27,7 @@ pub struct Goal<'a> {
 fn reaches_goal(goal: Goal, set: u32) -> bool
     requires given { ⌜ set < 2 ^ length (lanes-of (now (goal .network))) ⌝ }
     requires few { ⌜ ones set ≤ most-of (now (goal .network)) ⌝ }
-    ensures { λ r. ⌜ r ≡ leb (goal .entry .least) (network-chance (now (goal .entry .network)) set) ⌝ }
+    ensures { λ r. ⌜ r ≡ leb (goal .entry .least) (chance-by (connects (depots-of (now (goal .entry .network)))) (now (goal .entry .network)) set) ⌝ }
 {
     match chance(goal.network, set) {
         Ok(parts) => parts >= goal.least,
@@ -34,7 +37,7 @@ fn reaches_goal(goal: Goal, set: u32) -> bool
 
 // The picked lanes cost as much as the best set or more.
 fn is_too_dear(network: &Network, best: Option<u32>, picked: u32) -> bool
-    ensures { λ r. ⌜ r ≡ network-too-dear (now (network .entry)) best picked ⌝ }
+    ensures { λ r. ⌜ r ≡ too-dear (lanes-of (now (network .entry))) best picked ⌝ }
 {
     match best {
         Some(set) => network.sum_costs(set) <= network.sum_costs(picked),
