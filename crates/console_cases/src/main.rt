@@ -1,4 +1,6 @@
 // Answers many sheet files, one to a line of standard input: a name, a tab, and the file's bytes in hexadecimal.
+#![tactic(auto)]
+
 use planning::{plan, write_line};
 use sheet::SheetRoom;
 use std::alloc::Global;

@@ -1,4 +1,6 @@
 // Reads a sheet file from standard input and prints its plan, or why there is none, in one line.
+#![tactic(auto)]
+
 use planning::{plan, write_line};
 use sheet::SheetRoom;
 use std::io::Read;

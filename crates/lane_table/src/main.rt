@@ -1,5 +1,7 @@
 // Prints every set of the three-depot network's lanes with its cost, its chance and whether it connects; then the joining cost,
 // what the upper bounds tell, and the worked examples.
+#![tactic(auto)]
+
 use bounds::{Bound, Depot, Lesser, Plain, Question, Whole};
 use network::{LaneRoom, Mark, Network, Refusal};
 use reliability::{chance, connected, joining_cost};

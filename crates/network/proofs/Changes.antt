@@ -1,8 +1,8 @@
 -- One lane of a sound list is replaced by another sound one.
-use Rattle.std.proofs.Common.{◌≡◌, ℕ, zero, suc, ◌<◌, Bool, true, false, cond, not, ltb, List, [], ◌∷◌, length, get_or, set, is_some, Some, None, Option, sym, refl, ap, ◌∙◌, arith}
+use Rattle.std.proofs.Common.{◌≡◌, ℕ, zero, suc, ◌<◌, Bool, true, false, cond, not, ltb, List, [], ◌∷◌, length, get_or, set, is_some, Some, None, Option, refl, ap, ◌∙◌, arith}
 use Rattle.std.proofs.lemmas.Bool.{and_from, and_parts, ltb-true}
 use Rattle.network.specs.Changes.{number_refusal, with_mark, with_price}
-use Rattle.network.specs.Lanes.{all_sound, ends_unfit, lane_refusal, price_refusal, sound}
+use Rattle.network.specs.Lanes.{all_sound, ends_unfit, price_refusal, sound}
 use Rattle.network.specs.declared.lanes.Lane.{Lane}
 use Rattle.network.specs.declared.lanes.Mark.{Mark}
 use Rattle.network.specs.declared.refusals.Refusal.{Refusal}

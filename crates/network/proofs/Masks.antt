@@ -1,5 +1,5 @@
 -- Sets as numbers, lane by lane: bits of sums and of common lanes, and sets that lie within others.
-use Rattle.std.proofs.Common.{◌≡◌, ℕ, zero, suc, ◌+◌, ◌*◌, ◌/◌, ◌%◌, ◌^◌, ◌<◌, ◌≤◌, min, sym, refl, ap, ◌∙◌, subst, ap₂, le_trans, le_of_eq, mod-lt, pow-suc, div-one, one-add, arith, lit<, pow_mono}
+use Rattle.std.proofs.Common.{◌≡◌, ℕ, zero, suc, ◌+◌, ◌/◌, ◌%◌, ◌^◌, ◌<◌, ◌≤◌, min, sym, refl, ap, ◌∙◌, subst, ap₂, le_trans, le_of_eq, mod-lt, pow-suc, div-one, one-add, arith, lit<, pow_mono}
 use native.Mathlib.Nat.{pow-zero}
 use lib.Bits.{bit_and, and_le_r, and_step}
 use Rattle.std.proofs.lemmas.Nat.{div_below, shr-shr}

@@ -1,5 +1,5 @@
 -- A table of scales: looking a scale up row by row, and the rule of all rows by one test that the checker computes.
-use Rattle.std.proofs.Common.{◌≡◌, ℕ, zero, suc, ◌+◌, ◌^◌, ◌<◌, ◌≤◌, Bool, true, false, ◌&&◌, eqb, ltb, leb, List, [], ◌∷◌, length, get_or, drop, IfSome, Some, None, Option, refl, ap, ◌∙◌, subst, suc-le-suc, zero-le, le_trans, not-suc-le-zero, pow-suc, mul-zero, add-one}
+use Rattle.std.proofs.Common.{◌≡◌, ℕ, zero, suc, ◌+◌, ◌^◌, ◌<◌, ◌≤◌, Bool, true, ◌&&◌, eqb, ltb, leb, List, [], ◌∷◌, length, get_or, drop, IfSome, Some, None, refl, ap, ◌∙◌, subst, suc-le-suc, zero-le, le_trans, not-suc-le-zero, pow-suc, mul-zero, add-one}
 use native.Mathlib.Nat.{pow-le-pow_right}
 use Rattle.std.proofs.lemmas.List.{at_drop_more, at_drop_all}
 use Rattle.std.proofs.lemmas.Bool.{and_parts, cond_both, cond-true, cond-false, eq-eqb, ne_eqb, eqb-true, leb-true, ltb-true}

@@ -1,5 +1,5 @@
 -- How one lane of a list may change: another mark, or another chance and cost; and which of these changes are refused.
-use Rattle.std.specs.Prelude.{ℕ, Bool, true, false, cond, List, [], ◌∷◌, ◌++◌, length, Some, None, Option, nat_lt, slice_index_or, slice_set}
+use Rattle.std.specs.Prelude.{ℕ, Bool, true, false, cond, List, length, Some, None, Option, nat_lt, slice_index_or, slice_set}
 use Rattle.network.specs.Answers.{first_of}
 use Rattle.network.specs.Lanes.{no_lane, price_refusal}
 use Rattle.network.specs.declared.lanes.Lane.{Lane}

@@ -1,5 +1,7 @@
 // The words of the subject: scales, lanes, sets of lanes, refusals, and a network that has been checked.
 // Promise: a network exists only with a scale whose full scale is at most 10^18, two to ten depots and at most twenty sound lanes.
+#![tactic(auto)]
+
 mod lanes;
 mod networks;
 mod refusals;

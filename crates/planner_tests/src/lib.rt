@@ -1,4 +1,6 @@
 // Tests of refusals, totals, chances and bounds; small networks are compared with a plain enumeration of their states and sets.
+#![tactic(auto)]
+
 #[cfg(test)]
 mod bound_numbers;
 #[cfg(test)]

@@ -1,5 +1,7 @@
 // From the bytes of a sheet file to the answer that the console program prints.
 // Promise: the file's fault, or the refusal of one grant of all openings, or what the sheet reports after it.
+#![tactic(auto)]
+
 mod answers;
 mod lines;
 

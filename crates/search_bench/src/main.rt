@@ -1,5 +1,7 @@
 // Times whole searches on sheets of twenty lanes and ten depots: search_bench SHEETS [PARTS].
 // Without an argument it does nothing. With one it writes a line: sheets, microseconds, checksum, openings.
+#![tactic(auto)]
+
 use anyhow::anyhow;
 use bounds::{Depot, Lesser, Whole};
 use network::Refusal;

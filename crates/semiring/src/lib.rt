@@ -1,5 +1,7 @@
 // Values in which the states of a set of lanes are added up: a commutative semiring with a running and a failing weight for each lane.
 // Promise: every implementation shows the semiring's laws, so that one routine serves them all.
+#![tactic(auto)]
+
 ghost use Rattle.std.specs.Prelude.{◌≡◌};
 ghost use Rattle.semiring.specs.Semirings.{Laws, Ops};
 

@@ -1,5 +1,7 @@
 // The worked searches on the three-depot sheet, proved from the definitions in one check over a list, and a run of calls.
 // Promise: the code's reports are the expected ones, in the order of the list; of the run, what the statement over runs says.
+#![tactic(auto)]
+
 ghost use Rattle.std.specs.Prelude.{◌≡◌};
 ghost use Rattle.sheet_examples.specs.Searches.{SearchesHold, expected_reports};
 

@@ -1,5 +1,7 @@
 // Prints every set of the three-depot sheet's lanes with its cost, its chance and whether it connects; then the joining cost,
 // what the upper bounds tell, what four goals find, what one goal takes under three bounds, and the worked searches.
+#![tactic(auto)]
+
 use bounds::{Bound, Depot, Lesser, Plain, Question, Whole};
 use network::{Network, Refusal};
 use sheet::{MOST_GRANTED, Report, Sheet, SheetRoom, State};

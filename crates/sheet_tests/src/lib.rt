@@ -1,4 +1,6 @@
 // Tests of the sheet: its calls and refusals, and small sheets compared with a plain enumeration of their sets and states.
+#![tactic(auto)]
+
 #[cfg(test)]
 mod agreement;
 #[cfg(test)]

@@ -1,5 +1,7 @@
 // Times the share total of a set of lanes on ten depots: total_bench ROUNDS [LANES].
 // Without an argument it does nothing. With one it writes a line: rounds, microseconds, checksum.
+#![tactic(auto)]
+
 ghost use Rattle.std.specs.Prelude.{◌<◌};
 
 use anyhow::anyhow;

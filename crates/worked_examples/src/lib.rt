@@ -1,5 +1,7 @@
 // The worked examples, asked of the code and proved from the definitions in one check over a list.
 // Promise: the code's answers are the expected ones, in the order of the list.
+#![tactic(auto)]
+
 ghost use Rattle.std.specs.Prelude.{◌≡◌, None};
 ghost use Rattle.network.specs.Connected.{connects};
 ghost use Rattle.network.specs.Networks.{Made, depots_of};

@@ -10,4 +10,4 @@ hold = refl
 
 pub returns : goal.returns
 returns c =
-    record { value = (λ i. c.seek-in.ensures i ∷ c.seek-in-2.ensures i ∷ c.seek-in-3.ensures i ∷ c.seek-in-4.ensures i ∷ c.seek-in-5.ensures i ∷ c.seek-in-6.ensures i ∷ []) ∙ hold; hold = hold }
+    record { value = (λ i. c.seek_in.ensures i ∷ c.seek_in-2.ensures i ∷ c.seek_in-3.ensures i ∷ c.seek_in-4.ensures i ∷ c.seek_in-5.ensures i ∷ c.seek_in-6.ensures i ∷ []) ∙ hold; hold = hold }

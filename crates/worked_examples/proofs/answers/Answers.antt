@@ -11,12 +11,12 @@ hold = refl
 
 pub returns : goal.returns
 returns c =
-    let three = c.three-depots-three.ensures in
-    let none = chance_told _ 3 _ three 0 _ c.ask-chance.ensures in
-    let path = chance_told _ 3 _ three 3 _ c.ask-chance-2.ensures in
-    let all = chance_told _ 3 _ three 7 _ c.ask-chance-3.ensures in
-    let ring = chance_told _ 4 _ c.ring-of-four-ring.ensures 15 _ c.ask-chance-4.ensures in
-    let joining = joining_told _ 3 _ three _ c.joining-cost.ensures.value in
-    let struck = joining_told _ 3 _ c.three-depots-struck.ensures _ c.joining-cost-2.ensures.value in
-    let bound = bound_told _ 4 _ c.ring-of-four-ring.ensures 0 15 _ c.tell-depot.ensures in
+    let three = c.three_depots-three.ensures in
+    let none = chance_told _ 3 _ three 0 _ c.ask_chance.ensures in
+    let path = chance_told _ 3 _ three 3 _ c.ask_chance-2.ensures in
+    let all = chance_told _ 3 _ three 7 _ c.ask_chance-3.ensures in
+    let ring = chance_told _ 4 _ c.ring_of_four-ring.ensures 15 _ c.ask_chance-4.ensures in
+    let joining = joining_told _ 3 _ three _ c.joining_cost.ensures.value in
+    let struck = joining_told _ 3 _ c.three_depots-struck.ensures _ c.joining_cost-2.ensures.value in
+    let bound = bound_told _ 4 _ c.ring_of_four-ring.ensures 0 15 _ c.tell-depot.ensures in
     record { value = (λ i. none i ∷ path i ∷ all i ∷ ring i ∷ joining i ∷ struck i ∷ bound i ∷ []) ∙ hold; hold = hold }

@@ -10,6 +10,6 @@ pub loop-depot-preserved : goal.loop-depot-preserved
 loop-depot-preserved c =
     let network = c.args.network.now in
     c.min-least.ensures
-    ∙ min_comm c.loop-depot.least c.number-at.result
-    ∙ ap₂ min c.number-at.ensures c.loop-depot.invariant
+    ∙ min_comm c.loop-depot.least c.number_at.result
+    ∙ ap₂ min c.number_at.ensures c.loop-depot.invariant
     ∙ ap (λ (n : ℕ). least_depot (parts_of network) (most_of network) n (chosen c.args.set (lanes_of network))) (sym (add-one c.loop-depot.depot))

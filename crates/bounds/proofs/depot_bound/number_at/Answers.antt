@@ -13,8 +13,8 @@ parts_is c = c.from-parts.ensures ∙ c.parts.ensures ∙ ap (λ s. s.parts) c.s
 most_is : (c : After-from-most) → c.from-most.result ≡ most_of c.args.network.now
 most_is c = c.from-most.ensures ∙ c.most.ensures ∙ ap (λ s. s.most) c.scale-2.ensures
 
-pub overflow-add-count : goal.overflow-add-count
-overflow-add-count c =
+pub overflow_add-count : goal.overflow_add-count
+overflow_add-count c =
     let network = c.args.network.now in
     omega (arith, c.loop-i.invariant.few, ap length c.lanes-lane-items.ensures, network.lanes.ok.0, network.few)
 
@@ -26,11 +26,11 @@ loop-i-preserved c =
     let same = c.lanes-lane-items.ensures in
     let inside = c.loop-i-test.true in
     let so = c.loop-i.invariant in
-    let named = ap (λ (b : Bool). eqb (c.args.set / 2 ^ c.loop-i.i % 2) 1 && b) c.has-end.ensures in
+    let named = ap (λ (b : Bool). eqb (c.args.set / 2 ^ c.loop-i.i % 2) 1 && b) c.has_end.ensures in
     elim c.if-set-i.branch [
       | then-set-i w ↦
           subst₂ (FailSofar (parts_of network) (most_of network) c.args.depot c.args.set lanes _) (sym w.count-is) (sym w.fail-is)
-          (fail_one (parts_of network) (most_of network) c.args.depot c.args.set network.scale.positive network.scale.rule _ lanes same _ _ _ so inside w.saturating-sub.result _ (w.saturating-sub.ensures ∙ ap₂ ◌-◌ (parts_is at) w.from.ensures) w.saturating-mul-fail.ensures (sym named ∙ w.if-set-i.true))
+          (fail_one (parts_of network) (most_of network) c.args.depot c.args.set network.scale.positive network.scale.rule _ lanes same _ _ _ so inside w.saturating_sub.result _ (w.saturating_sub.ensures ∙ ap₂ ◌-◌ (parts_is at) w.from.ensures) w.saturating_mul-fail.ensures (sym named ∙ w.if-set-i.true))
       | else-set-i w ↦
           subst₂ (FailSofar (parts_of network) (most_of network) c.args.depot c.args.set lanes _) (sym w.count-is) (sym w.fail-is)
           (fail_other (parts_of network) (most_of network) c.args.depot c.args.set network.scale.positive network.scale.rule _ lanes same _ _ _ so inside (sym named ∙ w.if-set-i.false))
@@ -48,7 +48,7 @@ pow-requires c =
 -- what the depot's lanes give, where they are at most K
 module _ (c : After-pow) where
   abbrev at : After-from-most
-  at = (goal.at.overflow-mul-result c).After-from-most
+  at = (goal.at.overflow_mul-result c).After-from-most
 
   past : length (lanes_of c.args.network.now) ≤ c.loop-i.i
   past = subst (λ xs. length xs ≤ c.loop-i.i) c.lanes-lane-items.ensures c.loop-i-test.false
@@ -67,11 +67,11 @@ module _ (c : After-pow) where
 full_is : (c : goal.Then-count-most) → c.full-full.result ≡ parts_of c.args.network.now ^ most_of c.args.network.now
 full_is c = c.full-full.ensures ∙ ap (λ (s : Scale). s.parts ^ s.most) c.scale-3.ensures
 
-pub overflow-mul-result : goal.overflow-mul-result
-overflow-mul-result c = omega (arith, fits c, c.args.network.now.scale.rule)
+pub overflow_mul-result : goal.overflow_mul-result
+overflow_mul-result c = omega (arith, fits c, c.args.network.now.scale.rule)
 
-pub overflow-sub-result : goal.overflow-sub-result
-overflow-sub-result c = omega (arith, fits c, c.full-full.ensures ∙ ap (λ (s : Scale). s.parts ^ s.most) c.scale-3.ensures)
+pub overflow_sub-result : goal.overflow_sub-result
+overflow_sub-result c = omega (arith, fits c, c.full-full.ensures ∙ ap (λ (s : Scale). s.parts ^ s.most) c.scale-3.ensures)
 
 pub returns-then-count-most : goal.returns-then-count-most
 returns-then-count-most c =

@@ -7,6 +7,6 @@ use Rattle.network.proofs.scales.limit_at.Goals as goal
 pub returns : goal.returns
 returns c =
     record {
-      value = c.find-limit.ensures;
-      rule = subst (λ found. IfSome found (λ limit. Greatest c.args.scale limit)) (sym c.find-limit.ensures) (admitted_rule c.args.scale);
+      value = c.find_limit.ensures;
+      rule = subst (λ found. IfSome found (λ limit. Greatest c.args.scale limit)) (sym c.find_limit.ensures) (admitted_rule c.args.scale);
     }

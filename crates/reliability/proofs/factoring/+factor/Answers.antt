@@ -8,11 +8,11 @@ use Rattle.reliability.proofs.factoring.+factor.Given as given
 use Rattle.reliability.proofs.factoring.+factor.Goals as goal
 use Rattle.reliability.proofs.factoring.+factor.Goals.{Joined-parts-eq3, then-parts-eq3, else-parts-eq3}
 
-pub label-of-left-requires : goal.label-of-left-requires
-label-of-left-requires g t c = (ends_at 10 _ c.args.i c.requires.ready.ends (omega arith)).0
+pub label_of-left-requires : goal.label_of-left-requires
+label_of-left-requires g t c = (ends_at 10 _ c.args.i c.requires.ready.ends (omega arith)).0
 
-pub label-of-right-requires : goal.label-of-right-requires
-label-of-right-requires g t c = (ends_at 10 _ c.args.i c.requires.ready.ends (omega arith)).1
+pub label_of-right-requires : goal.label_of-right-requires
+label_of-right-requires g t c = (ends_at 10 _ c.args.i c.requires.ready.ends (omega arith)).1
 
 -- what follows if the lane runs
 runs_told : (g : given.Over) (t : ℕ) (c : Joined-parts-eq3 g t) → c.if-parts-eq3.runs ≡ total g.V.Semiring.ops c.args.task.now.scale.parts (connects_from (merged c.args.labels.now (get_or (lanes_in c.args.task.now) c.args.i no_lane)) (c.args.parts - 1)) (drop (c.args.i + 1) (lanes_in c.args.task.now))
@@ -20,9 +20,9 @@ runs_told g t c =
     let task = c.args.task.now in
     let labels = c.args.labels.now in
     let by = λ (new : _) (parts : ℕ). total g.V.Semiring.ops task.scale.parts (connects_from new parts) (drop (c.args.i + 1) (lanes_in task)) in
-    let one_part = c.relabel-merged.ensures ∙ ap₂ (λ (from to : ℕ). map (relabelled to from) labels) c.label-of-right.ensures c.label-of-left.ensures in
+    let one_part = c.relabel-merged.ensures ∙ ap₂ (λ (from to : ℕ). map (relabelled to from) labels) c.label_of-right.ensures c.label_of-left.ensures in
     elim c.if-parts-eq3.branch [
-      | then-parts-eq3 w ↦ w.runs-is ∙ w.join-two-runs.ensures ∙ ap₂ by one_part (omega (arith, w.if-parts-eq3.true))
+      | then-parts-eq3 w ↦ w.runs-is ∙ w.join_two-runs.ensures ∙ ap₂ by one_part (omega (arith, w.if-parts-eq3.true))
       | else-parts-eq3 w ↦ w.runs-is ∙ w.factor-runs.ensures ∙ ap (λ new. by new (c.args.parts - 1)) one_part
     ]
 
@@ -31,16 +31,16 @@ returns-then-hopeless g t c =
     let task = c.args.task.now in
     c.zero.ensures
     ∙ hopeless_met g.V.Semiring.ops g.met.V.Semiring.laws task.scale.parts (lanes_in task) c.args.labels.now c.args.i c.args.parts (omega arith) c.if-hopeless.true
-    (sym c.label-of-left.ensures ∙ c.if-left-right.true ∙ c.label-of-right.ensures)
+    (sym c.label_of-left.ensures ∙ c.if-left-right.true ∙ c.label_of-right.ensures)
 
 pub returns-then-left-right : goal.returns-then-left-right
 returns-then-left-right g t c =
     let o = g.V.Semiring.ops in
     let task = c.args.task.now in
     c.product.ensures
-    ∙ ap (λ v. o.product v c.factor-after.result) c.add-weights.ensures
+    ∙ ap (λ v. o.product v c.factor-after.result) c.add_weights.ensures
     ∙ step_met o g.met.V.Semiring.laws task.scale.parts (lanes_in task) c.args.labels.now c.args.i c.args.parts (omega arith) c.factor-after.result c.factor-after.ensures
-    (sym c.label-of-left.ensures ∙ c.if-left-right.true ∙ c.label-of-right.ensures)
+    (sym c.label_of-left.ensures ∙ c.if-left-right.true ∙ c.label_of-right.ensures)
 
 pub returns-then-hopeless-2 : goal.returns-then-hopeless-2
 returns-then-hopeless-2 g t c =
@@ -50,7 +50,7 @@ returns-then-hopeless-2 g t c =
     ∙ ap (λ v. o.product v c.if-parts-eq3.runs) c.running.ensures
     ∙ hopeless_apart o g.met.V.Semiring.laws task.scale.parts (lanes_in task) c.args.labels.now c.args.i c.args.parts (omega arith) c.if-hopeless-2.true c.if-parts-eq3.runs
     (runs_told g t (goal.at.returns-then-hopeless-2 g t c).Joined-parts-eq3)
-    (λ same. c.if-left-right.false (c.label-of-left.ensures ∙ same ∙ sym c.label-of-right.ensures))
+    (λ same. c.if-left-right.false (c.label_of-left.ensures ∙ same ∙ sym c.label_of-right.ensures))
 
 pub returns : goal.returns
 returns g t c =
@@ -58,4 +58,4 @@ returns g t c =
     c.mix.ensures
     ∙ step_apart g.V.Semiring.ops g.met.V.Semiring.laws task.scale.parts (lanes_in task) c.args.labels.now c.args.i c.args.parts (omega arith) c.if-parts-eq3.runs c.factor-fails.result
     (runs_told g t (goal.at.returns g t c).Joined-parts-eq3) c.factor-fails.ensures
-    (λ same. c.if-left-right.false (c.label-of-left.ensures ∙ same ∙ sym c.label-of-right.ensures))
+    (λ same. c.if-left-right.false (c.label_of-left.ensures ∙ same ∙ sym c.label_of-right.ensures))

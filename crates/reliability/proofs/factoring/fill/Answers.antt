@@ -16,7 +16,7 @@ loop-i-preserved g c =
     let room : length ls < length start = subst (λ (n : ℕ). length ls < n) (sym (length-set c.args.scratch.now (length ls) c.one.result)) c.requires in
     let so = subst (λ (k : ℕ). FilledSofar g.V.Semiring.ops c.args.scale.parts ls start k c.loop-i.scratch) back c.loop-i.invariant in
     filled_more g.V.Semiring.ops c.args.scale.parts ls start i c.loop-i.scratch so within room c.product.result c.index-scratch-i.result c.index-scratch-i.is
-    (c.product.ensures ∙ ap (λ v. g.V.Semiring.ops.product v c.index-scratch-i.result) c.add-weights.ensures)
+    (c.product.ensures ∙ ap (λ v. g.V.Semiring.ops.product v c.index-scratch-i.result) c.add_weights.ensures)
 
 pub returns : goal.returns
 returns g c = filled_all _ _ c.args.lanes.now c.args.scratch.now c.one.result c.loop-i.i c.loop-i.scratch c.loop-i.invariant c.loop-i-test.false c.requires

@@ -11,10 +11,10 @@ use Rattle.reliability.proofs.questions.chance.Goals as goal
 use Rattle.reliability.proofs.questions.chance.Goals.{After-from-2}
 
 fine : (c : After-from-2) → question_refusal c.args.network.now c.args.set ≡ None
-fine c = passed _ tt tt c.in-ok-check-set.ensures
+fine c = passed _ tt tt c.in_ok-check_set.ensures
 
-share_is : (c : After-from-2) → c.in-ok-share.share ≡ set_total share_ops (connects (depots_of c.args.network.now)) c.args.network.now c.args.set
-share_is c = told_value (total_refusal c.args.network.now c.args.set 21) _ _ c.in-ok-share.ensures.totalled.answer
+share_is : (c : After-from-2) → c.in_ok-share.share ≡ set_total share_ops (connects (depots_of c.args.network.now)) c.args.network.now c.args.set
+share_is c = told_value (total_refusal c.args.network.now c.args.set 21) _ _ c.in_ok-share.ensures.totalled.answer
 
 -- the power by its scale
 power_is : (c : After-from-2) → c.from-2.result ^ (c.from.result - ones c.args.set) ≡ parts_of c.args.network.now ^ (most_of c.args.network.now - ones c.args.set)
@@ -27,9 +27,9 @@ pow-requires c =
     let at = (goal.at.pow-requires c).After-from-2 in
     omega (arith, power_is at, power_below c.args.network.now c.args.set (fine at))
 
-pub overflow-mul-result : goal.overflow-mul-result
-overflow-mul-result c =
-    let at = (goal.at.overflow-mul-result c).After-from-2 in
+pub overflow_mul-result : goal.overflow_mul-result
+overflow_mul-result c =
+    let at = (goal.at.overflow_mul-result c).After-from-2 in
     let network = c.args.network.now in
     let exact : c.parts.result * c.pow.result ≡ set_total natural_ops (connects (depots_of network)) network c.args.set * parts_of network ^ (most_of network - ones c.args.set) = ap₂ ◌*◌ (c.parts.ensures ∙ ap (λ v. v.parts) (share_is at) ∙ shares_tell network c.args.set (fine at) (connects (depots_of network))) (c.pow.ensures ∙ power_is at) in
     omega (arith, chance_below network c.args.set (fine at) (connects (depots_of network)))
@@ -39,4 +39,4 @@ returns c =
     let at = (goal.at.returns c).After-from-2 in
     let network = c.args.network.now in
     subst (λ (v : ℕ). Chance network c.args.set (Ok v)) (sym (ap₂ ◌*◌ c.parts.ensures (c.pow.ensures ∙ power_is at)))
-    (chance_told network c.args.set (fine at) c.in-ok-share.share (share_is at))
+    (chance_told network c.args.set (fine at) c.in_ok-share.share (share_is at))

@@ -13,8 +13,8 @@ pub returns : goal.returns
 returns c =
     let network = c.args.network.now in
     let s = c.args.set in
-    let fine = passed (question_refusal network s) tt tt c.in-ok-check-set.ensures in
-    let is = ap (λ v. v.yes) (told_value (total_refusal network s 21) _ (set_total yes_no_ops (connects (depots_of network)) network s) c.in-ok-joined.ensures.totalled.answer) in
+    let fine = passed (question_refusal network s) tt tt c.in_ok-check_set.ensures in
+    let is = ap (λ v. v.yes) (told_value (total_refusal network s 21) _ (set_total yes_no_ops (connects (depots_of network)) network s) c.in_ok-joined.ensures.totalled.answer) in
     record {
       answer = ap Ok is ∙ sym (ap (λ v. told v (set_total yes_no_ops (connects (depots_of network)) network s).yes) fine);
       meant = subst (λ (b : Bool). Decides b (Connected (depots_of network) (named network s))) (sym is) (yes_connected (parts_of network) (depots_of network) network.ten (named network s) (ends_named network s));

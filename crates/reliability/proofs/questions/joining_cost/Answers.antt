@@ -18,7 +18,7 @@ pub unreachable-requires : goal.unreachable-requires
 unreachable-requires c =
     let network = c.args.network.now in
     let given = ap (given_refusal (lanes_of network)) c.standing.ensures ∙ standing_given (lanes_of network) in
-    c.in-default.not-Ok _ (c.total.ensures.totalled.answer ∙ ap (λ v. told (first_of v None) (set_total cheapest_ops (connects (depots_of network)) network c.standing.result)) given)
+    c.in_default.not-Ok _ (c.total.ensures.totalled.answer ∙ ap (λ v. told (first_of v None) (set_total cheapest_ops (connects (depots_of network)) network c.standing.result)) given)
 
 pub returns : goal.returns
 returns c =

@@ -22,16 +22,16 @@ table_is g c =
     ∙ c.choose-count.ensures.named
     ∙ ap (chosen c.args.set) c.lanes.ensures
 
-pub factor-lanes-requires : goal.factor-lanes-requires
-factor-lanes-requires g c =
+pub factor_lanes-requires : goal.factor_lanes-requires
+factor_lanes-requires g c =
     let network = c.args.network.now in
-    let same = table_is g (goal.at.factor-lanes-requires g c).After-choose-count in
+    let same = table_is g (goal.at.factor_lanes-requires g c).After-choose-count in
     let all : length c.lanes.result.now ≡ length (lanes_of network) = ap length c.lanes.ensures in
     record {
       two = omega (arith, c.depots.ensures, network.two);
       ends = subst (EndsWithin 10) (sym same) (ends_wider _ network.ten (named network c.args.set) (ends_named network c.args.set));
       few = omega (arith, length-take (c.choose-count.result - 0) c.choose-count.new.table, c.choose-count.ensures.few, network.lanes.ok.0, network.few);
-      long = c.if-scratch-lt-SCRATCH-PLACES.false;
+      long = c.if-scratch-lt-SCRATCH_PLACES.false;
     }
 
 pub returns : goal.returns
@@ -40,25 +40,25 @@ returns g c =
     let o = g.V.Semiring.ops in
     let same = table_is g (goal.at.returns g c).After-choose-count in
     let by = λ (scale : Scale) (n : ℕ) (ls : List Lane). total o scale.parts (connects n) ls in
-    let value = c.factor-lanes.ensures.value ∙ (λ i. by (c.scale.ensures i) (c.depots.ensures i) (same i)) in
+    let value = c.factor_lanes.ensures.value ∙ (λ i. by (c.scale.ensures i) (c.depots.ensures i) (same i)) in
     record {
       totalled = total_answered network c.args.set o g.met.V.Semiring.laws c.args.scratch.now _ _
-          (passed (given_refusal (lanes_of network) c.args.set) tt tt c.in-ok-check-given.ensures) c.if-scratch-lt-SCRATCH-PLACES.false value c.factor-lanes.ensures.scratch;
+          (passed (given_refusal (lanes_of network) c.args.set) tt tt c.in_ok-check_given.ensures) c.if-scratch-lt-SCRATCH_PLACES.false value c.factor_lanes.ensures.scratch;
       tells = connects_is_told network.depots network.ten;
     }
 
-pub returns-in-err-check-given : goal.returns-in-err-check-given
-returns-in-err-check-given g c =
+pub returns-in_err-check_given : goal.returns-in_err-check_given
+returns-in_err-check_given g c =
     let network = c.args.network.now in
     record {
-      totalled = total_refused network c.args.set g.V.Semiring.ops c.args.scratch.now _ _ (left_with _ _ c.from-residual.ensures.1) (not_given_first network c.args.set _ (length c.args.scratch.now) (refused (given_refusal (lanes_of network) c.args.set) _ tt c.in-err-check-given.ensures));
+      totalled = total_refused network c.args.set g.V.Semiring.ops c.args.scratch.now _ _ (left_with _ _ c.from_residual.ensures.1) (not_given_first network c.args.set _ (length c.args.scratch.now) (refused (given_refusal (lanes_of network) c.args.set) _ tt c.in_err-check_given.ensures));
       tells = connects_is_told network.depots network.ten;
     }
 
-pub returns-then-scratch-lt-SCRATCH-PLACES : goal.returns-then-scratch-lt-SCRATCH-PLACES
-returns-then-scratch-lt-SCRATCH-PLACES g c =
+pub returns-then-scratch-lt-SCRATCH_PLACES : goal.returns-then-scratch-lt-SCRATCH_PLACES
+returns-then-scratch-lt-SCRATCH_PLACES g c =
     let network = c.args.network.now in
     record {
-      totalled = total_refused network c.args.set g.V.Semiring.ops c.args.scratch.now _ _ refl (then_too_short network c.args.set (length c.args.scratch.now) (passed (given_refusal (lanes_of network) c.args.set) tt tt c.in-ok-check-given.ensures) c.if-scratch-lt-SCRATCH-PLACES.true);
+      totalled = total_refused network c.args.set g.V.Semiring.ops c.args.scratch.now _ _ refl (then_too_short network c.args.set (length c.args.scratch.now) (passed (given_refusal (lanes_of network) c.args.set) tt tt c.in_ok-check_given.ensures) c.if-scratch-lt-SCRATCH_PLACES.true);
       tells = connects_is_told network.depots network.ten;
     }

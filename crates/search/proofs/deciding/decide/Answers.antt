@@ -11,8 +11,8 @@ fits network picked undecided inside =
     let more : 2 ^ length (lanes_of network) ≤ 2 ^ 20 = pow_mono {i = length (lanes_of network)} {j = 20} (few_lanes network) in
     omega arith
 
-pub overflow-sub-undecided : goal.overflow-sub-undecided
-overflow-sub-undecided g c =
+pub overflow_sub-undecided : goal.overflow_sub-undecided
+overflow_sub-undecided g c =
     let b = c.args.branch in
     let low = fits c.args.goal.network.now b.picked b.undecided c.requires in
     omega (arith, shifted b.undecided, (top_of b.undecided (omega arith) (omega arith)).lane)

@@ -20,8 +20,8 @@ pow-requires-2 c =
     let is : c.from-base.result ^ (c.from.result - c.from-places.result) ≡ scale.parts ^ unused = ap₂ ◌^◌ (c.from-base.ensures ∙ c.parts.ensures) exponent in
     omega (arith, is, power_within scale.parts scale.most unused scale.positive scale.rule low)
 
-pub overflow-mul-result : goal.overflow-mul-result
-overflow-mul-result c =
+pub overflow_mul-result : goal.overflow_mul-result
+overflow_mul-result c =
     let scale = c.args.scale in
     let goal = c.args.goal in
     let low : goal.places ≤ scale.most = omega (arith, c.if-goal-most.false, c.most.ensures) in

@@ -11,25 +11,25 @@ use Rattle.sheet_files.proofs.bodies.add_lane.Goals as goal
 use Rattle.sheet_files.proofs.bodies.add_lane.Goals.{After-offer}
 
 -- the lane that was offered is the body's
-offered : (g : _) (c : After-offer g) → Offer (left_in c.args.body.now) (right_in c.args.body.now) c.from-le-bytes-chance.result c.from-le-bytes-cost.result ≡ offer_in c.args.body.now
+offered : (g : _) (c : After-offer g) → Offer (left_in c.args.body.now) (right_in c.args.body.now) c.from_le_bytes-chance.result c.from_le_bytes-cost.result ≡ offer_in c.args.body.now
 offered g c =
     let body = c.args.body.now in
     let two_long : 3 + 2 ≤ length body = omega (arith, c.requires) in
     let four_long : 5 + 4 ≤ length body = omega (arith, c.requires) in
-    let chance : c.from-le-bytes-chance.result ≡ chance_in body = c.from-le-bytes-chance.ensures ∙ read_two body 3 two_long in
-    let cost : c.from-le-bytes-cost.result ≡ cost_in body = c.from-le-bytes-cost.ensures ∙ read_four body 5 four_long in
+    let chance : c.from_le_bytes-chance.result ≡ chance_in body = c.from_le_bytes-chance.ensures ∙ read_two body 3 two_long in
+    let cost : c.from_le_bytes-cost.result ≡ cost_in body = c.from_le_bytes-cost.ensures ∙ read_four body 5 four_long in
     λ i. Offer (left_in body) (right_in body) (chance i) (cost i)
 
-pub returns-in-err-offer : goal.returns-in-err-offer
-returns-in-err-offer g c =
+pub returns-in_err-offer : goal.returns-in_err-offer
+returns-in_err-offer g c =
     let body = c.args.body.now in
     let low : mark_in body ≤ 1 = omega (arith, c.if-mark-gt1.false) in
-    cases_left _ _ _ _ c.from-residual.ensures.1
-    (lane_refused (model_of g.B.Bound.tells c.args.sheet.now) body low _ (offered g (goal.at.returns-in-err-offer g c).After-offer) _ _ c.offer.ensures _ c.in-err-offer.was)
+    cases_left _ _ _ _ c.from_residual.ensures.1
+    (lane_refused (model_of g.B.Bound.tells c.args.sheet.now) body low _ (offered g (goal.at.returns-in_err-offer g c).After-offer) _ _ c.offer.ensures _ c.in_err-offer.was)
 
 pub returns : goal.returns
 returns g c =
     let body = c.args.body.now in
     let low : mark_in body ≤ 1 = omega (arith, c.if-mark-gt1.false) in
-    lane_accepted (model_of g.B.Bound.tells c.args.sheet.now) body low _ (offered g (goal.at.returns g c).After-offer) _ _ c.offer.ensures _ c.in-ok-offer.was
-    (c.strike-marked.ensures ∙ ap (λ (ls : List Lane). struck_by (mark_in body) (length ls) (model_of g.B.Bound.tells c.offer.new.self)) (c.lanes.ensures ∙ ap lanes_of c.network.ensures))
+    lane_accepted (model_of g.B.Bound.tells c.args.sheet.now) body low _ (offered g (goal.at.returns g c).After-offer) _ _ c.offer.ensures _ c.in_ok-offer.was
+    (c.strike_marked.ensures ∙ ap (λ (ls : List Lane). struck_by (mark_in body) (length ls) (model_of g.B.Bound.tells c.offer.new.self)) (c.lanes.ensures ∙ ap lanes_of c.network.ensures))

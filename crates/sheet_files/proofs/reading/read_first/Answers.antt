@@ -7,5 +7,5 @@ pub returns : goal.returns
 returns g c =
     record {
       file = c.step.ensures.file;
-      answer = first_done (model_of g.B.Bound.tells) (g.B.Bound.tells c.args.bound) c.args.reader.now c.step.new.self _ c.step.ensures _ (c.in-ok-body.was ∙ ap Ok c.in-Sheet.is) _ c.open-sheet.ensures;
+      answer = first_done (model_of g.B.Bound.tells) (g.B.Bound.tells c.args.bound) c.args.reader.now c.step.new.self _ c.step.ensures _ (c.in_ok-body.was ∙ ap Ok c.in-Sheet.is) _ c.open_sheet.ensures;
     }

@@ -7,11 +7,11 @@ use Rattle.bounds.specs.Questions.{asked_of, lawful}
 use Rattle.bounds.proofs.Told.{union}
 use Rattle.bounds.proofs.depot_bound.DepotBound.tell.Goals as goal
 
-pub returns-then-is-lawful : goal.returns-then-is-lawful
-returns-then-is-lawful c =
+pub returns-then-is_lawful : goal.returns-then-is_lawful
+returns-then-is_lawful c =
     let q = c.args.question in
     let network = q.network.now in
-    let yes_lawful = sym c.if-is-lawful.ensures.value in
-    c.least-number.ensures
+    let yes_lawful = sym c.if-is_lawful.ensures.value in
+    c.least_number.ensures
     ∙ ap (λ (s : ℕ). least_depot (parts_of network) (most_of network) (depots_of network) (chosen s (lanes_of network))) (union network q.picked q.undecided yes_lawful)
     ∙ sym (cond-true (lawful (asked_of q)) _ _ yes_lawful)

@@ -7,8 +7,8 @@ use Rattle.network.proofs.Sets.{StandingSofar, standing_fits, standing_one, stan
 use Rattle.network.proofs.networks.Network.standing.Goals as goal
 use Rattle.network.proofs.networks.Network.standing.Goals.{then-stands, else-stands}
 
-pub overflow-add-set : goal.overflow-add-set
-overflow-add-set c =
+pub overflow_add-set : goal.overflow_add-set
+overflow_add-set c =
     let network = c.args.self.now in
     let inside : c.loop-i.i < length (lanes_of network) = omega (arith, ap length c.deref-lane-items.ensures.value) in
     let few : c.loop-i.i < 20 = omega (arith, c.deref-lane-items.ensures.len, network.few) in

@@ -1,15 +1,13 @@
-use Rattle.std.proofs.Common.{◌<◌, ◌≤◌, length, Ok, sym, ap, ◌∙◌, subst, arith}
+use Rattle.std.proofs.Common.{◌<◌, ◌≤◌, length, sym, ap, ◌∙◌, subst, arith}
 use Rattle.std.proofs.lemmas.List.{take_all}
-use Rattle.network.specs.Answers.{told}
-use Rattle.network.specs.Networks.{lanes_of, most_of}
-use Rattle.network.specs.Sets.{set_cost, set_refusal}
-use Rattle.network.proofs.Offers.{passed}
+use Rattle.network.specs.Networks.{lanes_of}
+use Rattle.network.specs.Sets.{set_cost}
 use Rattle.network.proofs.Sets.{CostSofar, cost_named, cost_unnamed}
 use Rattle.network.proofs.networks.Network.sum_costs.Goals as goal
 use Rattle.network.proofs.networks.Network.sum_costs.Goals.{then-set-i-eq1, else-set-i-eq1}
 
-pub overflow-add-cost : goal.overflow-add-cost
-overflow-add-cost c =
+pub overflow_add-cost : goal.overflow_add-cost
+overflow_add-cost c =
     let network = c.args.self.now in
     let sum = cost_named network.scale.parts network.depots c.args.set _ (lanes_of network) c.deref-lane-items.ensures.value network.fit c.loop-i.i c.loop-i.cost c.loop-i-test.true c.loop-i.invariant c.if-set-i-eq1.true in
     let few : c.loop-i.i < 20 = omega (arith, c.deref-lane-items.ensures.len, network.few) in

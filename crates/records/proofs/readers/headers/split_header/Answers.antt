@@ -7,4 +7,4 @@ pub returns : goal.returns
 returns c =
     let bytes = c.args.bytes.now in
     let long : 4 ≤ length bytes = search rules in
-    (long, (c.from-le-bytes.ensures ∙ length_read bytes long, (c.from-le-bytes-2.ensures ∙ kind_read bytes long, take_rest bytes 4)))
+    (long, (c.from_le_bytes.ensures ∙ length_read bytes long, (c.from_le_bytes-2.ensures ∙ kind_read bytes long, take_rest bytes 4)))

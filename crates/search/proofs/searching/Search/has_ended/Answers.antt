@@ -5,4 +5,4 @@ use Rattle.search.proofs.searching.Search.has_ended.Goals as goal
 pub returns : goal.returns
 returns c =
     let pending = c.args.self.now.pending in
-    c.is-empty.ensures ∙ ap (λ (n : ℕ). eqb n 0) pending.ok.0 ∙ ended_empty (vec_items pending)
+    c.is_empty.ensures ∙ ap (λ (n : ℕ). eqb n 0) pending.ok.0 ∙ ended_empty (vec_items pending)

@@ -10,24 +10,24 @@ use Rattle.search.proofs.searching.Search.open_many.Goals as goal
 pub loop-made-init : goal.loop-made-init
 loop-made-init g c = (record { is = refl; given = c.requires }, omega arith)
 
-pub open-one-requires : goal.open-one-requires
-open-one-requires g c = c.loop-made.invariant.0.given
+pub open_one-requires : goal.open_one-requires
+open_one-requires g c = c.loop-made.invariant.0.given
 
 pub loop-made-preserved : goal.loop-made-preserved
 loop-made-preserved g c =
     let network = c.args.goal.network.now in
     let p = problem_of network c.args.goal.least (g.B.Bound.tells c.args.bound.now) in
     let self = c.loop-made.self in (
-      made_next p (length (lanes_of network)) (few_lanes network) (progress_of c.args.self.now) (progress_of self) (progress_of c.open-one.new.self) c.loop-made.made c.loop-made.invariant.0 self.shallow self.counted c.open-one.ensures,
+      made_next p (length (lanes_of network)) (few_lanes network) (progress_of c.args.self.now) (progress_of self) (progress_of c.open_one.new.self) c.loop-made.made c.loop-made.invariant.0 self.shallow self.counted c.open_one.ensures,
       omega arith,
     )
 
-pub returns-else-not-is-empty : goal.returns-else-not-is-empty
-returns-else-not-is-empty g c =
+pub returns-else-not-is_empty : goal.returns-else-not-is_empty
+returns-else-not-is_empty g c =
     let network = c.args.goal.network.now in
     let p = problem_of network c.args.goal.least (g.B.Bound.tells c.args.bound.now) in
     let self = c.loop-made.self in
-    let empty : vec_len self.pending ≡ 0 = eqb-true _ _ (sym c.if-not-is-empty.ensures) in
+    let empty : vec_len self.pending ≡ 0 = eqb-true _ _ (sym c.if-not-is_empty.ensures) in
     made_all p (length (lanes_of network)) (progress_of c.args.self.now) (progress_of self) c.loop-made.made c.args.openings c.loop-made.invariant.0 c.loop-made.invariant.1 (none_left (vec_items self.pending) (omega (arith, self.pending.ok.0, empty)))
 
 pub returns-after-loop-made : goal.returns-after-loop-made

@@ -10,7 +10,7 @@ no_later : (v : Option Refusal) → first_of v None ≡ v
 no_later None = refl
 no_later (Some e) = refl
 
-pub returns-in-err-network : goal.returns-in-err-network
-returns-in-err-network g c =
-    told_left _ _ _ _ c.from-residual.ensures.1
-    (sym (ap (first_of (scale_refusal c.args.parts c.args.most)) (no_later (depots_refusal c.args.depots))) ∙ c.in-err-network.ensures)
+pub returns-in_err-network : goal.returns-in_err-network
+returns-in_err-network g c =
+    told_left _ _ _ _ c.from_residual.ensures.1
+    (sym (ap (first_of (scale_refusal c.args.parts c.args.most)) (no_later (depots_refusal c.args.depots))) ∙ c.in_err-network.ensures)

@@ -3,4 +3,4 @@ use Rattle.semiring.specs.ValuesLemmas.{cheapest_same}
 use Rattle.semiring.proofs.cheapests.ops.CheapestSemiring.product.Goals as goal
 
 pub returns : goal.returns
-returns c = c.new.ensures ∙ cheapest_same _ _ (omega (arith, c.saturating-add.ensures))
+returns c = c.new.ensures ∙ cheapest_same _ _ (omega (arith, c.saturating_add.ensures))
