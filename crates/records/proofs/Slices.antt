@@ -1,8 +1,7 @@
 -- The first bytes of a slice as numbers, and where a reader stands in it.
-use Rattle.std.proofs.Common.{◌≡◌, ℕ, zero, suc, ◌+◌, ◌-◌, ◌*◌, ◌≤◌, Bool, true, false, cond, eqb, leb, List, [], ◌∷◌, length, get_or, take, drop, Some, None, Ok, Err, Option, Result, sym, refl, ap, ◌∙◌, subst, ⊎_elim, arith}
+use Rattle.std.proofs.Common.{◌≡◌, ℕ, ◌+◌, ◌-◌, ◌*◌, ◌≤◌, Bool, true, false, cond, eqb, leb, List, [], ◌∷◌, length, get_or, take, drop, Some, None, Ok, Err, Option, Result, sym, refl, ◌∙◌, subst, ⊎_elim, arith}
 use Rattle.std.proofs.lemmas.List.{length-drop, length-take-le}
 use Rattle.std.proofs.lemmas.Bool.{cases_lt, eq-eqb, leb-true, ne_eqb}
-use Rattle.records.specs.Bytes.{written}
 use Rattle.records.specs.Kinds.{body_length, kind_of}
 use Rattle.records.specs.Records.{Taken, frame_check, framed_by, header_bytes, kind_in, length_in, of_kind, take_record, with_body}
 use Rattle.records.specs.declared.faults.Misfit.{Misfit}

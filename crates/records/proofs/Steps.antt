@@ -1,10 +1,9 @@
 -- A reader after a record that was taken.
-use Rattle.std.proofs.Common.{◌≡◌, ℕ, ◌+◌, List, drop, Ok, Result, sym, refl, ap, ◌∙◌, arith}
+use Rattle.std.proofs.Common.{◌≡◌, ℕ, ◌+◌, List, drop, Ok, sym, ap, ◌∙◌, arith}
 use Rattle.std.proofs.lemmas.List.{drop-drop}
 use Rattle.records.specs.Kinds.{body_length}
 use Rattle.records.specs.Reading.{Step, body_in, file_of, kind_in, left_of, place_in, taken_as}
 use Rattle.records.specs.Records.{Taken, header_bytes, take_record}
-use Rattle.records.specs.declared.faults.Misfit.{Misfit}
 use Rattle.records.specs.declared.kinds.Kind.{Kind}
 use Rattle.records.specs.declared.kinds.Stage.{Stage}
 use Rattle.records.specs.declared.readers.Reader.{Reader}

@@ -1,7 +1,6 @@
 -- Sums and products that stand as a cap C where they are above it.
-use Rattle.std.specs.Prelude.{◌≡◌, ℕ, zero, suc, ◌+◌, ◌*◌, ◌<◌, ◌≤◌, min}
-use Rattle.std.proofs.Common.{sym, ap, ◌∙◌, ⊎_elim, mul-add, mul_assoc, mul_comm, mul-zero, le-mul_of_pos_right, le_trans, arith}
-use Rattle.std.proofs.Math.Nat.{min-eq_right}
+use Rattle.std.specs.Prelude.{◌≡◌, ℕ, zero, suc, ◌+◌, ◌*◌, ◌≤◌, min}
+use Rattle.std.proofs.Common.{sym, ap, ◌∙◌, ⊎_elim, mul-add, mul_assoc, mul_comm, mul-zero, le-mul_of_pos_right, arith}
 use Rattle.std.proofs.lemmas.Bool.{cases_lt}
 
 module _ (C : ℕ) where

@@ -1,10 +1,10 @@
 -- Two values are equal where their numbers are; and the laws of shares, of costs and of yes/no.
 use mathlib.Core.HLevel.{is_prop→PathP}
-use Rattle.std.specs.Prelude.{◌≡◌, ℕ, ◌+◌, ◌*◌, ◌≤◌, min, Bool, true, false, ◌&&◌, ◌||◌, refl}
+use Rattle.std.specs.Prelude.{◌≡◌, ◌≤◌, Bool, true, false, ◌&&◌, ◌||◌, refl}
 use Rattle.std.proofs.Common.{ap, mul_comm, one-mul, zero-mul, arith}
 use Rattle.std.proofs.Math.Bridge.{le_prop}
 use Rattle.network.specs.Scales.{full_limit}
-use Rattle.semiring.specs.Cheapest.{absent, cheapest, cheapest_ops}
+use Rattle.semiring.specs.Cheapest.{absent, cheapest_ops}
 use Rattle.semiring.specs.Semirings.{Laws}
 use Rattle.semiring.specs.Shares.{share, share_ops}
 use Rattle.semiring.specs.YesNo.{yes_no, yes_no_ops}

@@ -1,4 +1,4 @@
-use Rattle.std.proofs.Common.{◌≡◌, ℕ, ◌+◌, ◌≤◌, List, length, drop, Ok, sym, refl, ap, ◌∙◌, subst, arith}
+use Rattle.std.proofs.Common.{◌≡◌, ℕ, ◌+◌, ◌≤◌, List, length, drop, Ok, sym, refl, ap, subst, arith}
 use Rattle.std.proofs.lemmas.List.{length-drop}
 use Rattle.records.specs.Kinds.{body_length}
 use Rattle.records.specs.Reading.{left_of}
@@ -17,7 +17,7 @@ invariant_of-self c =
     let self = c.args.self.now in
     let fits = (taken_whole c.args.stage (left_of self) _ (taken c)).there in
     let within : self.place + 4 + c.body_length.result ≤ length self.file.now = omega (arith, fits, c.body_length.ensures, length-drop self.place self.file.now, self.within) in
-    within
+    record { within = within }
 
 pub returns-in-Sheet : goal.returns-in-Sheet
 returns-in-Sheet c =

@@ -1,4 +1,4 @@
-use Rattle.std.proofs.Common.{◌≤◌, length, ◌∙◌, arith, rules}
+use Rattle.std.proofs.Common.{◌≤◌, length, ◌∙◌, rules}
 use Rattle.std.proofs.lemmas.List.{take_rest}
 use Rattle.records.proofs.Slices.{kind_read, length_read}
 use Rattle.records.proofs.readers.headers.split_header.Goals as goal
