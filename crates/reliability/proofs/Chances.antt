@@ -1,5 +1,5 @@
 -- What the questions about a set rest on: the chance fits its word, and the answers are told by every test of connectedness.
-use Rattle.std.proofs.Common.{◌≡◌, ℕ, ◌+◌, ◌-◌, ◌*◌, ◌^◌, ◌<◌, ◌≤◌, Bool, true, cond, ltb, List, length, is_some, Some, None, Ok, Err, Result, sym, refl, ap, ◌∙◌, subst, ap₂, le_trans, mul-le-mul_right, arith, pow-add}
+use Rattle.std.proofs.Common.{◌≡◌, ℕ, ◌+◌, ◌-◌, ◌*◌, ◌^◌, ◌<◌, ◌≤◌, Bool, true, cond, ltb, List, length, is_some, Some, None, Ok, Err, Result, sym, ap, ◌∙◌, subst, ap₂, le_trans, mul-le-mul_right, arith, pow-add}
 use native.Mathlib.Nat.{pow-le-pow_right}
 use lib.Count.{ones}
 use Rattle.std.proofs.lemmas.Bool.{cond-false, cond-true, le-ltb, lt-ltb}
@@ -19,7 +19,6 @@ use Rattle.semiring.specs.Shares.{share_ops}
 use Rattle.semiring.specs.declared.shares.Share.{Share}
 use Rattle.reliability.specs.Questions.{Chance, Totalled, chance_by, cleared, named, question_refusal, scratch_places, set_total, total_refusal}
 use Rattle.reliability.specs.Reliability.{natural_ops}
-use Rattle.reliability.specs.Totals.{Tells, total}
 use Rattle.reliability.proofs.Meaning.{sound_ends, total_told}
 use Rattle.reliability.proofs.Natural.{natural_laws, share_exact, total_full}
 

@@ -1,7 +1,7 @@
 -- The total in cheapest is the least cost of a part of the lanes that passes the test.
-use Rattle.std.proofs.Common.{◌≡◌, ℕ, ◌+◌, ◌*◌, ◌<◌, ◌≤◌, min, Bool, true, false, cond, eqb, List, [], ◌∷◌, length, Some, None, Decides, Option, sym, refl, ap, ◌∙◌, subst, ap₂, ⊎_elim, le_of_eq, arith}
+use Rattle.std.proofs.Common.{◌≡◌, ℕ, ◌+◌, ◌*◌, ◌<◌, ◌≤◌, min, Bool, true, false, cond, eqb, List, [], ◌∷◌, length, Some, None, Decides, sym, refl, ap, ◌∙◌, ap₂, ⊎_elim, le_of_eq, arith}
 use Rattle.std.proofs.lemmas.Bool.{and_parts, cases_Bool, cases_lt, cond_both, eqb-true, eqb-false}
-use Rattle.network.specs.Connected.{Connected, EndsWithin, connects}
+use Rattle.network.specs.Connected.{Connected, connects}
 use Rattle.network.specs.Lanes.{all_sound, most_lanes, sound}
 use Rattle.network.specs.Sets.{total_cost}
 use Rattle.network.specs.declared.lanes.Lane.{Lane}
@@ -9,7 +9,7 @@ use Rattle.network.proofs.Connectedness.{connects_tells}
 use Rattle.network.proofs.Sets.{fit_lane}
 use Rattle.semiring.specs.Cheapest.{absent, cheapest, cheapest_ops}
 use Rattle.semiring.specs.ValuesLemmas.{cheapest_laws}
-use Rattle.reliability.specs.Joining.{CheapestJoining, Least, Part, none, keep, skip, joining_cost}
+use Rattle.reliability.specs.Joining.{CheapestJoining, Part, none, keep, skip, joining_cost}
 use Rattle.reliability.specs.Totals.{total}
 use Rattle.reliability.proofs.Splitting.{total_split}
 use Rattle.reliability.proofs.Meaning.{ends_part, sound_ends}

@@ -1,7 +1,6 @@
 -- Totals in plain natural numbers: how they bound, and that shares tell them exactly as long as they stay below 10^18.
-use Rattle.std.proofs.Common.{◌≡◌, ℕ, zero, suc, ◌+◌, ◌-◌, ◌*◌, ◌^◌, ◌<◌, ◌≤◌, min, Bool, true, false, cond, List, [], ◌∷◌, ◌++◌, map, length, sym, refl, ap, ◌∙◌, subst, ap₂, le_trans, add_assoc, mul-le-mul_right, mul_assoc, mul_comm, add_comm, mul-le-mul_left, one-mul, pow-suc, zero-add, zero-mul, mul-add, arith}
+use Rattle.std.proofs.Common.{◌≡◌, ℕ, ◌+◌, ◌-◌, ◌*◌, ◌^◌, ◌≤◌, min, Bool, true, false, cond, List, [], ◌∷◌, map, length, sym, refl, ap, ◌∙◌, subst, ap₂, le_trans, add_assoc, mul_assoc, mul_comm, add_comm, one-mul, pow-suc, zero-add, zero-mul, mul-add, arith}
 use native.Mathlib.Nat.{pow-zero, pow-le-pow_right, min-eq_left}
-use Rattle.std.proofs.lemmas.Nat.{mul-le}
 use Rattle.std.proofs.lemmas.Bool.{and_parts, false≢true}
 use Rattle.network.specs.Lanes.{all_sound, sound}
 use Rattle.network.specs.Scales.{full_limit}
@@ -12,9 +11,9 @@ use Rattle.semiring.specs.Shares.{share, share_ops}
 use Rattle.semiring.specs.Capped.{add_capped, mul_capped_left, mul_capped_right}
 use Rattle.semiring.specs.ValuesLemmas.{share_same}
 use Rattle.reliability.specs.Reliability.{natural_ops}
-use Rattle.reliability.specs.Spread.{both, spread}
+use Rattle.reliability.specs.Spread.{spread}
 use Rattle.reliability.specs.Totals.{Fate, runs, fails, part, running_lanes, states, sum_of, total, weight}
-use Rattle.reliability.proofs.Splitting.{total_split, total_all}
+use Rattle.reliability.proofs.Splitting.{total_all}
 
 pub natural_laws : Laws natural_ops
 natural_laws =

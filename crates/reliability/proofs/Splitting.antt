@@ -1,5 +1,5 @@
 -- A total by its first lane: the equations by which factoring goes, in every commutative semiring.
-use Rattle.std.proofs.Common.{◌≡◌, ℕ, suc, ◌+◌, ◌-◌, ◌<◌, ◌≤◌, Bool, true, false, cond, leb, List, [], ◌∷◌, ◌++◌, map, length, sym, refl, ap, ◌∙◌, ap₂, arith}
+use Rattle.std.proofs.Common.{◌≡◌, ℕ, ◌+◌, ◌-◌, ◌<◌, ◌≤◌, Bool, true, false, cond, List, [], ◌∷◌, ◌++◌, map, length, sym, refl, ap, ◌∙◌, ap₂, arith}
 use mathlib.Core.List.{map-append}
 use Rattle.std.proofs.lemmas.Bool.{cond_both, cond-true, cond-false, le-leb, lt-leb}
 use Rattle.network.specs.Connected.{connects_from, labels_after, meets, merged, parts_after}
@@ -7,7 +7,7 @@ use Rattle.network.specs.declared.lanes.Lane.{Lane}
 use Rattle.semiring.specs.Semirings.{Laws, Ops}
 use Rattle.reliability.specs.Joining.{Part, none, keep, skip}
 use Rattle.reliability.specs.Spread.{both, spread}
-use Rattle.reliability.specs.Totals.{Fate, runs, fails, part, running_lanes, states, sum_of, total, weight}
+use Rattle.reliability.specs.Totals.{runs, fails, part, running_lanes, states, sum_of, total, weight}
 
 -- ---- parts of a list of lanes
 

@@ -1,12 +1,12 @@
 -- One step of the factoring routine: from the total of the lanes after the i-th to the total from the i-th on.
-use Rattle.std.proofs.Common.{◌≡◌, ℕ, zero, suc, ◌+◌, ◌-◌, ◌<◌, ◌≤◌, true, false, List, [], ◌∷◌, length, get_or, drop, sym, ap, ◌∙◌, ap₂, arith}
-use Rattle.std.proofs.lemmas.List.{at_drop_more, drop_all, length-drop}
+use Rattle.std.proofs.Common.{◌≡◌, ℕ, zero, suc, ◌+◌, ◌-◌, ◌<◌, List, [], ◌∷◌, length, get_or, drop, sym, ap, ◌∙◌, ap₂, arith}
+use Rattle.std.proofs.lemmas.List.{at_drop_more, length-drop}
 use Rattle.std.proofs.lemmas.Bool.{eq-eqb, ne_eqb}
 use Rattle.network.specs.Connected.{EndsWithin, connects_from, label_at, merged}
 use Rattle.network.specs.Lanes.{no_lane}
 use Rattle.network.specs.declared.lanes.Lane.{Lane}
 use Rattle.semiring.specs.Semirings.{Laws, Ops}
-use Rattle.reliability.specs.Spread.{Filled, both, mixed, spread}
+use Rattle.reliability.specs.Spread.{Filled, both, mixed}
 use Rattle.reliability.specs.Totals.{total}
 use Rattle.reliability.proofs.Splitting.{from_apart, from_connected, from_hopeless, from_met, product_zero_right, sum_zero_right}
 

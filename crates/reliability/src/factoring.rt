@@ -15,14 +15,14 @@ pub const SCRATCH_PLACES: usize = 21;
 
 // The two weights of a lane together.
 fn add_weights<V: Semiring>(lane: &Lane, scale: Scale) -> V
-    ensures { result ≡ both ops scale.parts lane.now }
+    ensures { result ≡ both V.ops scale.parts lane.now }
 {
     V::running(lane, scale).sum(V::failing(lane, scale))
 }
 
 // What a lane between two parts gives, by what follows if it runs and if it fails.
 fn mix<V: Semiring>(lane: &Lane, scale: Scale, runs: V, fails: V) -> V
-    ensures { result ≡ mixed ops scale.parts lane.now runs fails }
+    ensures { result ≡ mixed V.ops scale.parts lane.now runs fails }
 {
     let runs = V::running(lane, scale).product(runs);
     runs.sum(V::failing(lane, scale).product(fails))
@@ -38,9 +38,9 @@ struct Task<'a, V> {
 
 // Where two parts are left, from the last lane back: a lane between them ends it if it runs, and any other is a factor.
 fn join_two<V: Semiring>(task: &Task<V>, i: usize, labels: &[u8; DEPOTS]) -> V
-    requires ready { Ready ops task.now }
+    requires ready { Ready V.ops task.now }
     requires within { i ≤ length (lanes_in task.now) }
-    ensures { result ≡ from_lane ops task.now i labels.now 2 }
+    ensures { result ≡ from_lane V.ops task.now i labels.now 2 }
 {
     let mut value = V::zero();
     for k in (i..task.lanes.len()).rev() {
@@ -56,10 +56,10 @@ fn join_two<V: Semiring>(task: &Task<V>, i: usize, labels: &[u8; DEPOTS]) -> V
 
 // The total of the lanes from the i-th on, where at least three parts are left and enough lanes to connect them.
 fn factor<V: Semiring>(task: &Task<V>, i: usize, labels: &[u8; DEPOTS], parts: usize) -> V
-    requires ready { Ready ops task.now }
+    requires ready { Ready V.ops task.now }
     requires three { 3 ≤ parts }
     requires enough { i + parts ≤ length (lanes_in task.now) + 1 }
-    ensures { result ≡ from_lane ops task.now i labels.now parts }
+    ensures { result ≡ from_lane V.ops task.now i labels.now parts }
 {
     let lane = task.lanes[i];
     let left = label_of(labels, lane.left);
@@ -88,7 +88,7 @@ fn factor<V: Semiring>(task: &Task<V>, i: usize, labels: &[u8; DEPOTS], parts: u
 // Puts into each place what all states of the lanes from there on add up to.
 fn fill<V: Semiring>(lanes: &[Lane], scale: Scale, scratch: &mut [V])
     requires { length lanes.now < length scratch.old }
-    ensures filled { Filled ops scale.parts lanes.now scratch.new }
+    ensures filled { Filled V.ops scale.parts lanes.now scratch.new }
     ensures beyond { drop (length lanes.now + 1) scratch.new ≡ drop (length lanes.now + 1) scratch.old }
 {
     let count = lanes.len();
@@ -101,7 +101,7 @@ fn fill<V: Semiring>(lanes: &[Lane], scale: Scale, scratch: &mut [V])
 // Puts the semiring's zero into the first places.
 fn clear<V: Semiring>(scratch: &mut [V], places: usize)
     requires { places ≤ length scratch.old }
-    ensures { scratch.new ≡ replicate places ops.zero ++ drop places scratch.old }
+    ensures { scratch.new ≡ replicate places V.ops.zero ++ drop places scratch.old }
 {
     for k in 0..places {
         scratch[k] = V::zero();
@@ -112,8 +112,8 @@ fn clear<V: Semiring>(scratch: &mut [V], places: usize)
 fn factor_all<'a, V: Semiring>(lanes: &'a [Lane], scale: Scale, depots: u8, rest: &'a [V]) -> V
     requires two { 2 ≤ depots }
     requires ends { EndsWithin 10 lanes.now }
-    requires filled { Filled ops scale.parts lanes.now rest.now }
-    ensures { result ≡ total ops scale.parts (connects depots) lanes.now }
+    requires filled { Filled V.ops scale.parts lanes.now rest.now }
+    ensures { result ≡ total V.ops scale.parts (connects depots) lanes.now }
 {
     let task = Task { lanes, scale, rest };
     let labels = [0, 1, 2, 3, 4, 5, 6, 7, 8, 9];
@@ -138,8 +138,8 @@ pub(crate) fn factor_lanes<V: Semiring>(
     requires ends { EndsWithin 10 lanes.now }
     requires few { length lanes.now < scratch_places }
     requires long { scratch_places ≤ length scratch.old }
-    ensures value { result ≡ total ops scale.parts (connects depots) lanes.now }
-    ensures scratch { scratch.new ≡ cleared ops scratch.old }
+    ensures value { result ≡ total V.ops scale.parts (connects depots) lanes.now }
+    ensures scratch { scratch.new ≡ cleared V.ops scratch.old }
 {
     fill(lanes, scale, scratch);
     let value = factor_all(lanes, scale, depots, scratch);

@@ -19,7 +19,7 @@ const NO_LANE: Lane = Lane {
 
 // The sum, over the states of the set's lanes that connect all depots, of the product of the weights.
 pub fn total<V: Semiring>(network: &Network, set: u32, scratch: &mut [V]) -> Result<V, Refusal>
-    ensures totalled { Totalled ops network.now set scratch.old result scratch.new }
+    ensures totalled { Totalled V.ops network.now set scratch.old result scratch.new }
     ensures tells { Tells (depots_of network.now) (connects (depots_of network.now)) }
 {
     network.check_given(set)?;

@@ -43,7 +43,7 @@ fn is_too_dear(network: &Network, best: Option<u32>, picked: u32) -> bool
 // What comes of opening a branch of given lanes.
 pub fn decide<B: Bound>(goal: Goal, bound: &B, best: Option<u32>, branch: Branch) -> Opening
     requires { branch.picked + branch.undecided < 2 ^ length (lanes_of goal.network.now) }
-    ensures { result ≡ decided (problem_of goal.entry.network.now goal.entry.least (tells bound.now)) best branch }
+    ensures { result ≡ decided (problem_of goal.entry.network.now goal.entry.least (B.tells bound.now)) best branch }
 {
     let network = goal.network;
     let question = Question {

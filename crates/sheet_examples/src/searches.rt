@@ -13,7 +13,7 @@ const ENOUGH: u32 = 15;
 
 // Its three lanes are offered, and there is no goal.
 pub fn open_three<B: Bound + Drop>(room: SheetRoom, bound: B) -> Sheet<B>
-    ensures { model_of tells result ≡ three_sheet (tells bound) }
+    ensures { model_of B.tells result ≡ three_sheet (B.tells bound) }
 {
     let Ok(mut sheet) = Sheet::open(room, 10, 4, 3, bound) else {
         unreachable()
@@ -26,8 +26,8 @@ pub fn open_three<B: Bound + Drop>(room: SheetRoom, bound: B) -> Sheet<B>
 
 // States a goal, grants enough openings to end, and tells the report.
 pub fn seek<B: Bound>(sheet: &mut Sheet<B>, places: u8, parts: u64) -> Report
-    ensures report { result ≡ report_of (after_run (model_of tells sheet.old) (search_for places parts)) }
-    ensures model { model_of tells sheet.new ≡ after_run (model_of tells sheet.old) (search_for places parts) }
+    ensures report { result ≡ report_of (after_run (model_of B.tells sheet.old) (search_for places parts)) }
+    ensures model { model_of B.tells sheet.new ≡ after_run (model_of B.tells sheet.old) (search_for places parts) }
 {
     let _ = sheet.state_goal(places, parts);
     let _ = sheet.grant(ENOUGH);
@@ -36,7 +36,7 @@ pub fn seek<B: Bound>(sheet: &mut Sheet<B>, places: u8, parts: u64) -> Report
 
 // The report of one search on a sheet of its own.
 pub fn seek_in<B: Bound + Drop>(room: SheetRoom, bound: B, places: u8, parts: u64) -> Report
-    ensures { result ≡ report_of (after_run (three_sheet (tells bound)) (search_for places parts)) }
+    ensures { result ≡ report_of (after_run (three_sheet (B.tells bound)) (search_for places parts)) }
 {
     let mut sheet = open_three(room, bound);
     seek(&mut sheet, places, parts)

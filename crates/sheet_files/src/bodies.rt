@@ -15,7 +15,7 @@ pub fn open_sheet<B: Bound + Drop>(
     bound: B,
 ) -> Result<Sheet<B>, Cause>
     requires { length body.now ≡ 4 }
-    ensures { MatchResult result (λ sheet. open_by (tells bound) body.now ≡ Ok (model_of tells sheet)) (λ cause. open_by (tells bound) body.now ≡ Err cause) }
+    ensures { MatchResult result (λ sheet. open_by (B.tells bound) body.now ≡ Ok (model_of B.tells sheet)) (λ cause. open_by (B.tells bound) body.now ≡ Err cause) }
 {
     let [depots, most, s0, s1] = body else {
         unreachable()
@@ -27,7 +27,7 @@ pub fn open_sheet<B: Bound + Drop>(
 
 // Mark 0 strikes the lane.
 fn strike_marked<B: Bound>(sheet: &mut Sheet<B>, mark: u8, lane: u8)
-    ensures { model_of tells sheet.new ≡ struck_by mark lane (model_of tells sheet.old) }
+    ensures { model_of B.tells sheet.new ≡ struck_by mark lane (model_of B.tells sheet.old) }
 {
     if mark == 0 {
         let _ = sheet.strike(lane);
@@ -37,7 +37,7 @@ fn strike_marked<B: Bound>(sheet: &mut Sheet<B>, mark: u8, lane: u8)
 // Two ends, the mark, the chance and the cost.
 pub fn add_lane<B: Bound>(sheet: &mut Sheet<B>, body: &[u8]) -> Result<(), Cause>
     requires { length body.now ≡ 9 }
-    ensures { MatchResult result (λ _. lane_by (model_of tells sheet.old) body.now ≡ Ok (model_of tells sheet.new)) (λ cause. lane_by (model_of tells sheet.old) body.now ≡ Err cause) }
+    ensures { MatchResult result (λ _. lane_by (model_of B.tells sheet.old) body.now ≡ Ok (model_of B.tells sheet.new)) (λ cause. lane_by (model_of B.tells sheet.old) body.now ≡ Err cause) }
 {
     let [left, right, mark, p0, p1, c0, c1, c2, c3] = body else {
         unreachable()
@@ -56,7 +56,7 @@ pub fn add_lane<B: Bound>(sheet: &mut Sheet<B>, body: &[u8]) -> Result<(), Cause
 // r, then g.
 pub fn state_goal<B: Bound>(sheet: &mut Sheet<B>, body: &[u8]) -> Result<(), Cause>
     requires { length body.now ≡ 9 }
-    ensures { MatchResult result (λ _. goal_by (model_of tells sheet.old) body.now ≡ Ok (model_of tells sheet.new)) (λ cause. goal_by (model_of tells sheet.old) body.now ≡ Err cause) }
+    ensures { MatchResult result (λ _. goal_by (model_of B.tells sheet.old) body.now ≡ Ok (model_of B.tells sheet.new)) (λ cause. goal_by (model_of B.tells sheet.old) body.now ≡ Err cause) }
 {
     let [places, g0, g1, g2, g3, g4, g5, g6, g7] = body else {
         unreachable()

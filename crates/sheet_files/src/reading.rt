@@ -34,7 +34,7 @@ fn find_stage<B>(sheet: &Sheet<B>) -> Stage
 }
 
 fn read_next<B: Bound>(sheet: &mut Sheet<B>, reader: &mut Reader) -> Result<(), Cause>
-    ensures { Next (model_of tells sheet.old) reader.old result (model_of tells sheet.new) reader.new }
+    ensures { Next (model_of B.tells sheet.old) reader.old result (model_of B.tells sheet.new) reader.new }
 {
     let stage = find_stage(sheet);
     match reader.step(stage)? {
@@ -52,7 +52,7 @@ fn read_first<B: Bound + Drop>(
     bound: B,
 ) -> Result<Sheet<B>, Cause>
     ensures file { file_of reader.new ≡ file_of reader.old }
-    ensures answer { MatchResult result (λ sheet. Opened (tells bound) reader.old (model_of tells sheet) reader.new) (λ cause. first_by (tells bound) (take_record First (left_of reader.old)) ≡ Err cause) }
+    ensures answer { MatchResult result (λ sheet. Opened (B.tells bound) reader.old (model_of B.tells sheet) reader.new) (λ cause. first_by (B.tells bound) (take_record First (left_of reader.old)) ≡ Err cause) }
 {
     match reader.step(Stage::First)? {
         Record::Sheet { place: _, body } => open_sheet(room, body, bound),
@@ -64,8 +64,8 @@ fn read_first<B: Bound + Drop>(
 
 // The sheet that a file describes, or the one fault that it has. A run of calls may begin there.
 pub fn read<B: Bound + Drop>(room: SheetRoom, file: &[u8], bound: B) -> Result<Sheet<B>, Fault>
-    ensures told { MatchResult result (λ sheet. read_file (tells bound) file.now ≡ Ok (model_of tells sheet)) (λ fault. read_file (tells bound) file.now ≡ Err fault) }
-    ensures fresh { IfOk result (λ sheet. Fresh (model_of tells sheet)) }
+    ensures told { MatchResult result (λ sheet. read_file (B.tells bound) file.now ≡ Ok (model_of B.tells sheet)) (λ fault. read_file (B.tells bound) file.now ≡ Err fault) }
+    ensures fresh { IfOk result (λ sheet. Fresh (model_of B.tells sheet)) }
 {
     let mut reader = Reader::new(file);
     let mut sheet = match read_first(room, &mut reader, bound) {

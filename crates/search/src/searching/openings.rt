@@ -14,7 +14,7 @@ use bounds::Bound;
 impl Search {
     fn open_one<B: Bound>(&mut self, goal: Goal, bound: &B)
         requires { all_given (length (lanes_of goal.network.now)) (progress_of self.old).pending ≡ true }
-        ensures { progress_of self.new ≡ open_one (problem_of goal.entry.network.now goal.entry.least (tells bound.now)) (progress_of self.old) }
+        ensures { progress_of self.new ≡ open_one (problem_of goal.entry.network.now goal.entry.least (B.tells bound.now)) (progress_of self.old) }
     {
         let Some(branch) = self.pending.pop() else {
             return;
@@ -34,7 +34,7 @@ impl Search {
     // Openings until so many are made or none is pending.
     pub fn open_many<B: Bound>(&mut self, goal: Goal, bound: &B, openings: u32)
         requires { all_given (length (lanes_of goal.network.now)) (progress_of self.old).pending ≡ true }
-        ensures { progress_of self.new ≡ open_many (problem_of goal.entry.network.now goal.entry.least (tells bound.now)) openings (progress_of self.old) }
+        ensures { progress_of self.new ≡ open_many (problem_of goal.entry.network.now goal.entry.least (B.tells bound.now)) openings (progress_of self.old) }
     {
         let mut made = 0;
         while made < openings && !self.pending.is_empty() {

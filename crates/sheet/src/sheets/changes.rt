@@ -39,7 +39,7 @@ impl<B: Bound> Sheet<B> {
         chance: u16,
         cost: u32,
     ) -> Result<(), Refusal>
-        ensures { Stepped (model_of tells self.old) (Offer left right chance cost) result (model_of tells self.new) }
+        ensures { Stepped (model_of B.tells self.old) (Offer left right chance cost) result (model_of B.tells self.new) }
     {
         let lane = Lane {
             left,
@@ -54,7 +54,7 @@ impl<B: Bound> Sheet<B> {
     }
 
     pub(crate) fn mark_lane(&mut self, lane: u8, mark: Mark) -> Result<(), Refusal>
-        ensures { Stepped (model_of tells self.old) (mark_call mark lane) result (model_of tells self.new) }
+        ensures { Stepped (model_of B.tells self.old) (mark_call mark lane) result (model_of B.tells self.new) }
     {
         self.network.set_mark(lane, mark)?;
         self.state = begin(&mut self.seeking, &self.network, self.goal);
@@ -62,7 +62,7 @@ impl<B: Bound> Sheet<B> {
     }
 
     pub(crate) fn price_lane(&mut self, lane: u8, chance: u16, cost: u32) -> Result<(), Refusal>
-        ensures { Stepped (model_of tells self.old) (Reprice lane chance cost) result (model_of tells self.new) }
+        ensures { Stepped (model_of B.tells self.old) (Reprice lane chance cost) result (model_of B.tells self.new) }
     {
         self.network.reprice(lane, chance, cost)?;
         self.state = begin(&mut self.seeking, &self.network, self.goal);
@@ -70,7 +70,7 @@ impl<B: Bound> Sheet<B> {
     }
 
     pub(crate) fn take_goal(&mut self, places: u8, parts: u64) -> Result<(), Refusal>
-        ensures { Stepped (model_of tells self.old) (StateGoal places parts) result (model_of tells self.new) }
+        ensures { Stepped (model_of B.tells self.old) (StateGoal places parts) result (model_of B.tells self.new) }
     {
         let goal = Goal { places, parts };
         self.least = find_least(goal, self.network.scale())?;

@@ -37,7 +37,7 @@ fn find_state(seeking: &Search) -> State
 impl<B: Bound> Sheet<B> {
     pub(crate) fn work(&mut self, openings: u32) -> Result<(), Refusal>
         requires { self.old.state ≡ Working }
-        ensures { Stepped (model_of tells self.old) (Grant openings) result (model_of tells self.new) }
+        ensures { Stepped (model_of B.tells self.old) (Grant openings) result (model_of B.tells self.new) }
     {
         check_grant(openings)?;
         let target = Goal {

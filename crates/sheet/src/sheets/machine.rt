@@ -11,7 +11,7 @@ use network::{Mark, Refusal};
 
 impl<B: Bound> Sheet<B> {
     pub fn call(&mut self, call: Call) -> Result<(), Refusal>
-        ensures { Stepped (model_of tells self.old) call result (model_of tells self.new) }
+        ensures { Stepped (model_of B.tells self.old) call result (model_of B.tells self.new) }
     {
         match (self.state, call) {
             (
@@ -36,7 +36,7 @@ impl<B: Bound> Sheet<B> {
     }
 
     pub fn offer(&mut self, left: u8, right: u8, chance: u16, cost: u32) -> Result<(), Refusal>
-        ensures { Stepped (model_of tells self.old) (Offer left right chance cost) result (model_of tells self.new) }
+        ensures { Stepped (model_of B.tells self.old) (Offer left right chance cost) result (model_of B.tells self.new) }
     {
         self.call(Call::Offer {
             left,
@@ -47,31 +47,31 @@ impl<B: Bound> Sheet<B> {
     }
 
     pub fn strike(&mut self, lane: u8) -> Result<(), Refusal>
-        ensures { Stepped (model_of tells self.old) (Strike lane) result (model_of tells self.new) }
+        ensures { Stepped (model_of B.tells self.old) (Strike lane) result (model_of B.tells self.new) }
     {
         self.call(Call::Strike { lane })
     }
 
     pub fn restore(&mut self, lane: u8) -> Result<(), Refusal>
-        ensures { Stepped (model_of tells self.old) (Restore lane) result (model_of tells self.new) }
+        ensures { Stepped (model_of B.tells self.old) (Restore lane) result (model_of B.tells self.new) }
     {
         self.call(Call::Restore { lane })
     }
 
     pub fn reprice(&mut self, lane: u8, chance: u16, cost: u32) -> Result<(), Refusal>
-        ensures { Stepped (model_of tells self.old) (Reprice lane chance cost) result (model_of tells self.new) }
+        ensures { Stepped (model_of B.tells self.old) (Reprice lane chance cost) result (model_of B.tells self.new) }
     {
         self.call(Call::Reprice { lane, chance, cost })
     }
 
     pub fn state_goal(&mut self, places: u8, parts: u64) -> Result<(), Refusal>
-        ensures { Stepped (model_of tells self.old) (StateGoal places parts) result (model_of tells self.new) }
+        ensures { Stepped (model_of B.tells self.old) (StateGoal places parts) result (model_of B.tells self.new) }
     {
         self.call(Call::StateGoal { places, parts })
     }
 
     pub fn grant(&mut self, openings: u32) -> Result<(), Refusal>
-        ensures { Stepped (model_of tells self.old) (Grant openings) result (model_of tells self.new) }
+        ensures { Stepped (model_of B.tells self.old) (Grant openings) result (model_of B.tells self.new) }
     {
         self.call(Call::Grant { openings })
     }

@@ -30,7 +30,7 @@ impl<B: Bound + Drop> Sheet<B> {
         depots: u8,
         bound: B,
     ) -> Result<Sheet<B>, Refusal>
-        ensures { Told (opening_refusal parts most depots) result (λ sheet. model_of tells sheet ≡ opened parts most depots (tells bound)) }
+        ensures { Told (opening_refusal parts most depots) result (λ sheet. model_of B.tells sheet ≡ opened parts most depots (B.tells bound)) }
     {
         let SheetRoom { lanes, branches } = room;
         let network = Network::new(lanes, parts, most, depots, &[])?;

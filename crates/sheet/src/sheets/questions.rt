@@ -52,7 +52,7 @@ impl<B> Sheet<B> {
 
     // The total in any semiring, worked out in a scratch that the caller lends.
     pub fn total<V: Semiring>(&self, set: u32, scratch: &mut [V]) -> Result<V, Refusal>
-        ensures { Totalled ops self.now.network set scratch.old result scratch.new }
+        ensures { Totalled V.ops self.now.network set scratch.old result scratch.new }
     {
         reliability::total(&self.network, set, scratch)
     }

@@ -13,8 +13,8 @@ use reliability::chance;
 impl<B: Bound> Sheet<B> {
     // The statement holds over every run that leads to this sheet.
     pub fn report(&self) -> Report
-        ensures told { result ≡ report_of (model_of tells self.now) }
-        ensures stated { OverEveryRun (model_of tells self.now) result }
+        ensures told { result ≡ report_of (model_of B.tells self.now) }
+        ensures stated { OverEveryRun (model_of B.tells self.now) result }
     {
         Report {
             state: self.state,
@@ -24,7 +24,7 @@ impl<B: Bound> Sheet<B> {
     }
 
     fn tell_best(&self) -> Option<Plan>
-        ensures { result ≡ told_plan (contents_of self.now.network) (model_of tells self.now).progress.best }
+        ensures { result ≡ told_plan (contents_of self.now.network) (model_of B.tells self.now).progress.best }
     {
         let set = self.seeking.best()?;
         let Ok(chance) = chance(&self.network, set) else {

@@ -1,7 +1,7 @@
-use Rattle.std.proofs.Common.{◌≡◌, ℕ, ◌+◌, ◌-◌, ◌<◌, map, length, get_or, drop, sym, ap, ◌∙◌, ap₂, arith}
+use Rattle.std.proofs.Common.{◌≡◌, ℕ, ◌+◌, ◌-◌, map, get_or, drop, sym, ap, ◌∙◌, ap₂, arith}
 use Rattle.network.specs.Connected.{connects_from, merged, relabelled}
 use Rattle.network.specs.Lanes.{no_lane}
-use Rattle.reliability.specs.Tasks.{from_lane, lanes_in}
+use Rattle.reliability.specs.Tasks.{lanes_in}
 use Rattle.reliability.specs.Totals.{total}
 use Rattle.reliability.proofs.Stepping.{ends_at, hopeless_met, hopeless_apart, step_apart, step_met}
 use Rattle.reliability.proofs.factoring.+factor.Given as given

@@ -1,4 +1,4 @@
-use Rattle.std.proofs.Common.{◌≡◌, ℕ, ◌-◌, ◌*◌, ◌^◌, ◌<◌, ◌≤◌, None, Ok, sym, ap, ◌∙◌, subst, ap₂, arith}
+use Rattle.std.proofs.Common.{◌≡◌, ℕ, ◌-◌, ◌*◌, ◌^◌, None, Ok, sym, ap, ◌∙◌, subst, ap₂, arith}
 use lib.Count.{ones}
 use Rattle.network.specs.Connected.{connects}
 use Rattle.network.specs.Networks.{depots_of, most_of, parts_of}

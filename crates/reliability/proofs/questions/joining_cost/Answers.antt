@@ -1,4 +1,4 @@
-use Rattle.std.proofs.Common.{◌≡◌, ℕ, ◌≤◌, true, length, None, sym, ap, ◌∙◌, subst, arith}
+use Rattle.std.proofs.Common.{◌≡◌, ◌≤◌, true, length, None, sym, ap, ◌∙◌, subst, arith}
 use Rattle.network.specs.Answers.{first_of, told}
 use Rattle.network.specs.Connected.{connects}
 use Rattle.network.specs.Lanes.{all_sound}
