@@ -1,5 +1,5 @@
 -- The chance that all lanes at a depot fail, worked out lane by lane.
-use Rattle.std.proofs.Common.{◌≡◌, ℕ, ◌+◌, ◌-◌, ◌*◌, ◌/◌, ◌%◌, ◌^◌, ◌<◌, ◌≤◌, min, Bool, true, false, cond, ◌&&◌, eqb, leb, List, [], ◌∷◌, ◌++◌, length, get_or, take, sym, refl, ap, ◌∙◌, subst, ap₂, append-nil, le_trans, le_of_eq, le_refl, mul-le-mul_right, mul_assoc, mul_comm, one-mul, pow-suc, mul-one, arith, pow-add}
+use Rattle.std.proofs.Common.{◌≡◌, ℕ, ◌+◌, ◌-◌, ◌*◌, ◌/◌, ◌%◌, ◌^◌, ◌<◌, ◌≤◌, min, Bool, true, false, ◌&&◌, eqb, leb, List, [], ◌∷◌, ◌++◌, length, get_or, take, sym, refl, ap, ◌∙◌, subst, ap₂, append-nil, le_trans, le_of_eq, mul-le-mul_right, mul_assoc, one-mul, mul-one, arith, pow-add}
 use native.Mathlib.Nat.{min-eq_left, pow-le-pow_right, pow-zero, pow-succ'}
 use Rattle.std.proofs.lemmas.Nat.{mul-le}
 use Rattle.std.proofs.lemmas.List.{length-append, take_all}

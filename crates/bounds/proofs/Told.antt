@@ -1,5 +1,5 @@
 -- What the code of a bound tells of a lawful question over a network.
-use Rattle.std.proofs.Common.{◌≡◌, ℕ, ◌+◌, ◌^◌, ◌<◌, ◌≤◌, Bool, true, false, cond, leb, length, Some, None, Ok, Err, Option, sym, refl, ap, ◌∙◌, subst, lt_of_le_of_lt, arith}
+use Rattle.std.proofs.Common.{◌≡◌, ℕ, ◌+◌, ◌^◌, ◌<◌, ◌≤◌, Bool, true, false, cond, leb, length, Some, None, Ok, Err, sym, refl, ap, ◌∙◌, subst, lt_of_le_of_lt, arith}
 use lib.Bits.{bit_or, or_disjoint}
 use lib.Count.{ones}
 use Rattle.std.proofs.lemmas.Bool.{cond-false, cond-true, le-leb, lt-ltb}

@@ -1,17 +1,14 @@
 -- Each of the four bounds has the meaning: it covers every set that is still possible.
-use Rattle.std.specs.Prelude.{◌≡◌, ℕ, ◌+◌, ◌^◌, ◌<◌, ◌≤◌, min, Bool, true, false, cond, ◌&&◌, List, length, Decides, count_ones, nat_le, refl}
-use Rattle.std.proofs.Common.{sym, ap, ◌∙◌, subst, ⊎_elim, le_trans, arith}
-use Rattle.std.specs.Int.Bits.{bit_and}
+use Rattle.std.specs.Prelude.{◌≡◌, ℕ, ◌+◌, ◌≤◌, true, length, Decides, count_ones, nat_le, refl}
+use Rattle.std.proofs.Common.{sym, subst, ⊎_elim, le_trans, arith}
 use Rattle.std.proofs.lemmas.Bool.{and_from, and_parts, cases_Bool, cond_both, cond-false, cond-true, eq-eqb, eqb-true, le-leb, leb-true}
 use Rattle.network.specs.Connected.{connects}
 use Rattle.network.specs.Lanes.{all_sound}
-use Rattle.network.specs.Sets.{bit, chosen, standing_set}
-use Rattle.network.specs.declared.lanes.Lane.{Lane}
+use Rattle.network.specs.Sets.{chosen, standing_set}
 use Rattle.network.proofs.Masks.{and_apart, and_within, apart_and, bit_sum, within_and}
 use Rattle.network.proofs.Sets.{sound_chosen}
 use Rattle.reliability.specs.Joining.{Part}
 use Rattle.reliability.specs.Reliability.{lanes_chance}
-use Rattle.bounds.specs.Depots.{least_depot}
 use Rattle.bounds.specs.Meaning.{Meaning, Possible, chance_in}
 use Rattle.bounds.specs.Numbers.{depot_tells, lesser_tells, plain_tells, whole_tells}
 use Rattle.bounds.specs.Questions.{Asked, Checked, Lawful, candidates, full, if_lawful, lawful}

@@ -1,16 +1,15 @@
 -- A depot none of whose lanes runs is cut off, so the chance is at most one minus the chance that all lanes at that depot fail.
-use Rattle.std.specs.Prelude.{◌≡◌, ℕ, zero, suc, ◌+◌, ◌-◌, ◌*◌, ◌^◌, ◌<◌, ◌≤◌, min, Bool, true, false, cond, not, ◌&&◌, ◌||◌, ◌⊎◌, List, [], ◌∷◌, length, ◌≢◌, nat_le, refl}
-use Rattle.std.proofs.Common.{sym, ap, ap₂, ◌∙◌, subst, inl, inr, ⊎_elim, add-mul, le_of_eq, le_refl, le_trans, mul-add, mul_assoc, mul_comm, mul-le-mul_left, mul-le-mul_right, mul-one, mul-zero, one-mul, add-le-add, pow-suc, add-one, arith, pow-add}
+use Rattle.std.specs.Prelude.{◌≡◌, ℕ, zero, suc, ◌+◌, ◌-◌, ◌*◌, ◌^◌, ◌<◌, ◌≤◌, Bool, true, false, cond, not, ◌&&◌, List, [], ◌∷◌, length, ◌≢◌, nat_le, refl}
+use Rattle.std.proofs.Common.{sym, ap, ◌∙◌, inl, inr, add-mul, le_of_eq, le_trans, mul-add, mul_assoc, mul_comm, mul-le-mul_left, mul-le-mul_right, mul-zero, one-mul, pow-suc, arith, pow-add}
 use Rattle.std.proofs.Math.Nat.{pow-zero}
-use Rattle.std.proofs.lemmas.Bool.{and_left, and_parts, and_right, cases_Bool, cases_eq, cond_both, eq-eqb, false≢true, leb-true, not_from_true, or_left, or_right}
-use Rattle.network.specs.Connected.{Adjacent, Connected, EndsWithin, Joins, Way, here, along, connects}
+use Rattle.std.proofs.lemmas.Bool.{and_left, and_parts, and_right, cond_both, eq-eqb, false≢true, leb-true, not_from_true, or_left, or_right}
+use Rattle.network.specs.Connected.{Adjacent, Connected, Joins, Way, here, along, connects}
 use Rattle.network.specs.Lanes.{all_sound, sound}
 use Rattle.network.specs.Sets.{kept}
 use Rattle.network.specs.declared.lanes.Lane.{Lane}
 use Rattle.network.proofs.Connectedness.{connects_tells}
 use Rattle.reliability.specs.Joining.{Part, none, keep, skip}
 use Rattle.reliability.specs.Reliability.{lanes_chance, natural_ops}
-use Rattle.reliability.specs.Totals.{total}
 use Rattle.reliability.proofs.Meaning.{ends_part, sound_ends}
 use Rattle.reliability.proofs.Natural.{natural_laws, spread_full}
 use Rattle.reliability.proofs.Splitting.{part_length, total_all, total_none}

@@ -1,9 +1,9 @@
 -- Adding a lane to a set never lowers its chance, and no chance is above the full scale.
-use Rattle.std.specs.Prelude.{◌≡◌, ℕ, ◌+◌, ◌-◌, ◌*◌, ◌^◌, ◌<◌, ◌≤◌, Bool, true, false, cond, List, [], ◌∷◌, length, refl}
+use Rattle.std.specs.Prelude.{◌≡◌, ℕ, ◌+◌, ◌-◌, ◌*◌, ◌^◌, ◌≤◌, Bool, true, false, cond, List, [], ◌∷◌, length, refl}
 use Rattle.std.proofs.Common.{sym, ap, ap₂, ◌∙◌, add-mul, le_of_eq, le_refl, le_trans, mul_assoc, mul_comm, mul-le-mul_left, mul-le-mul_right, mul-one, add-le-add, pow-suc, add-one, arith, pow-add}
 use Rattle.std.proofs.Math.Nat.{pow-zero}
 use Rattle.std.proofs.lemmas.Bool.{and_parts, false≢true}
-use Rattle.network.specs.Connected.{EndsWithin, connects}
+use Rattle.network.specs.Connected.{connects}
 use Rattle.network.specs.Lanes.{all_sound, sound}
 use Rattle.network.specs.declared.lanes.Lane.{Lane}
 use Rattle.network.proofs.Sets.{fit_lane}

@@ -1,5 +1,5 @@
 -- The lanes of a set that lies within another are some of the other's lanes.
-use Rattle.std.specs.Prelude.{◌≡◌, ℕ, suc, ◌+◌, ◌/◌, ◌%◌, ◌≤◌, Bool, true, false, List, [], ◌∷◌, length, ◌==◌, count_ones, nat_eq, refl}
+use Rattle.std.specs.Prelude.{◌≡◌, ℕ, suc, ◌/◌, ◌%◌, ◌≤◌, Bool, true, false, List, [], ◌∷◌, length, ◌==◌, count_ones, nat_eq, refl}
 use Rattle.std.proofs.Common.{arith}
 use Rattle.std.specs.Int.Count.{ones_step}
 use Rattle.std.proofs.lemmas.Bool.{eq-eqb, eqb-true, false≢true}

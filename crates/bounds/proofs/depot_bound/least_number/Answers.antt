@@ -1,4 +1,4 @@
-use Rattle.std.proofs.Common.{◌≡◌, ℕ, min, sym, ap, ◌∙◌, ap₂, add-one}
+use Rattle.std.proofs.Common.{ℕ, min, sym, ap, ◌∙◌, ap₂, add-one}
 use native.Mathlib.Nat.{min_comm}
 use Rattle.network.specs.Networks.{lanes_of, most_of, parts_of}
 use Rattle.network.specs.Sets.{chosen}

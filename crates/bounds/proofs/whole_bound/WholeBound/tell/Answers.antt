@@ -1,7 +1,5 @@
-use Rattle.std.proofs.Common.{◌≡◌, ℕ, Ok, Err, sym, ap, ◌∙◌, subst}
-use Rattle.network.specs.declared.scales.Scale.{Scale}
+use Rattle.std.proofs.Common.{ℕ, Ok, Err, sym, ◌∙◌, subst}
 use Rattle.reliability.specs.Questions.{Chance}
-use Rattle.bounds.specs.Questions.{asked_of, full}
 use Rattle.bounds.proofs.Told.{full_of, union, whole_err, whole_ok}
 use Rattle.bounds.proofs.whole_bound.WholeBound.tell.Goals as goal
 
