@@ -1,15 +1,15 @@
 -- How many openings a search makes: it ends, after at most 2^(m+1) − 1 of them with m standing lanes, and openings add up.
-use Rattle.std.proofs.Common.{◌≡◌, ℕ, zero, suc, ◌+◌, ◌-◌, ◌^◌, ◌<◌, ◌≤◌, min, Bool, true, false, cond, eqb, List, [], ◌∷◌, length, Option, sym, refl, ap, ◌∙◌, subst, ap₂, ⊎_elim, pow-suc, zero-add, add-one, one-add, arith, pow_pos}
+use Rattle.std.proofs.Common.{◌≡◌, ℕ, zero, suc, ◌+◌, ◌-◌, ◌^◌, ◌<◌, ◌≤◌, min, Bool, true, false, cond, eqb, List, [], ◌∷◌, length, Option, sym, refl, ap, ◌∙◌, subst, ⊎_elim, pow-suc, zero-add, add-one, arith, pow_pos}
 use lib.Count.{ones}
 use Rattle.std.proofs.lemmas.Bool.{cases_lt, eqb-false}
 use Rattle.network.specs.Sets.{standing_lanes, standing_set}
 use Rattle.network.proofs.Sets.{chosen_count, chosen_standing, standing_below}
 use Rattle.bounds.specs.Meaning.{Meaning}
 use Rattle.bounds.specs.Questions.{Checked}
-use Rattle.search.proofs.Covering.{Holds, Sound, begins, step, top}
+use Rattle.search.proofs.Covering.{Holds, begins, step, top}
 use Rattle.search.proofs.Tops.{Top, ones_rest}
 use Rattle.search.specs.Keeping.{all_work, work}
-use Rattle.search.specs.Opening.{Problem, Progress, branches_after, dropped, highest, open_from, open_many, open_one, question, start, with_lane, without}
+use Rattle.search.specs.Opening.{Problem, Progress, dropped, highest, open_from, open_many, open_one, question, start, with_lane, without}
 use Rattle.search.specs.declared.branches.Branch.{Branch}
 use Rattle.search.specs.Plans.{FullCount}
 

@@ -1,20 +1,19 @@
 -- The search forgets no plan: each is under a pending branch, or the best set so far is before it or is that plan.
-use Rattle.std.proofs.Common.{◌≡◌, ℕ, zero, suc, ◌+◌, ◌-◌, ◌*◌, ◌/◌, ◌%◌, ◌^◌, ◌<◌, ◌≤◌, Bool, true, false, cond, ◌&&◌, ◌||◌, eqb, ltb, leb, ◌⊎◌, List, [], ◌∷◌, length, IfSome, Some, None, Option, sym, refl, ap, ◌∙◌, subst, ap₂, inl, inr, ⊎_elim, le_trans, le_refl, arith, pow_mono}
-use lib.Count.{count_leading_zeros, ones, ones_step}
-use Rattle.std.proofs.lemmas.Nat.{leading_top}
-use Rattle.std.proofs.lemmas.Bool.{and_parts, cases_Bool, cases_eq, cases_lt, cond_both, cond-false, cond-true, eq-eqb, eqb-false, eqb-true, false≢true, true≢false, leb-true, leb-false, ltb-true, ltb-false, or_cases, or_parts}
-use Rattle.network.specs.Sets.{bit, chosen, set_cost, standing_set, total_cost}
+use Rattle.std.proofs.Common.{◌≡◌, ℕ, zero, suc, ◌+◌, ◌-◌, ◌^◌, ◌<◌, ◌≤◌, Bool, true, false, cond, ◌&&◌, eqb, ltb, ◌⊎◌, List, [], ◌∷◌, length, IfSome, Some, None, Option, sym, refl, ap, ◌∙◌, subst, inl, inr, ⊎_elim, le_trans, le_refl, arith, pow_mono}
+use lib.Count.{ones}
+use Rattle.std.proofs.lemmas.Bool.{cases_eq, cases_lt, eqb-false, eqb-true, false≢true, true≢false, leb-true, leb-false, ltb-true, ltb-false, or_cases, or_parts}
+use Rattle.network.specs.Sets.{bit, set_cost, standing_set, total_cost}
 use Rattle.network.specs.declared.lanes.Lane.{Lane}
-use Rattle.network.proofs.Masks.{bit_first, bit_half, bit_low, bit_none, bit_sum, same_bits, within_le}
+use Rattle.network.proofs.Masks.{bit_low, bit_none, bit_sum, same_bits, within_le}
 use Rattle.network.proofs.Sets.{standing_below}
 use Rattle.reliability.specs.Joining.{Part, none, keep, skip}
 use Rattle.bounds.specs.Meaning.{Meaning, Possible}
-use Rattle.bounds.specs.Questions.{Asked, Checked, Lawful}
+use Rattle.bounds.specs.Questions.{Checked, Lawful}
 use Rattle.bounds.specs.Within.{chosen_part}
-use Rattle.search.specs.Opening.{Problem, Progress, best_after, branches_after, chance_of, cost_of, dropped, highest, open_from, open_many, open_one, opened, question, reaches, start, too_dear, with_lane, without}
-use Rattle.search.proofs.Tops.{Top, bit_other, bit_own, ones_rest, ones_within, rest_top, split_bits, top_of}
+use Rattle.search.specs.Opening.{Problem, Progress, best_after, branches_after, chance_of, cost_of, dropped, highest, open_from, open_many, open_one, question, reaches, start, too_dear, with_lane, without}
+use Rattle.search.proofs.Tops.{Top, bit_other, bit_own, ones_within, split_bits, top_of}
 use Rattle.search.specs.declared.branches.Branch.{Branch}
-use Rattle.search.specs.Plans.{Answers, Before, Cheapest, FullCount, Plan, StandingSet}
+use Rattle.search.specs.Plans.{Answers, Before, Plan}
 
 -- ---- costs and counts of sets within sets
 

@@ -1,5 +1,5 @@
 -- One opening, as the code makes it: what is decided of the newest branch is applied to the rest.
-use Rattle.std.proofs.Common.{◌≡◌, ℕ, zero, suc, ◌+◌, ◌-◌, ◌^◌, ◌<◌, ◌≤◌, Bool, true, false, cond, ◌&&◌, eqb, ltb, leb, List, [], ◌∷◌, ◌++◌, reverse, length, Some, None, Option, sym, refl, ap, ◌∙◌, arith, pow_mono}
+use Rattle.std.proofs.Common.{◌≡◌, ℕ, zero, suc, ◌+◌, ◌-◌, ◌^◌, ◌<◌, ◌≤◌, Bool, true, false, cond, ◌&&◌, eqb, List, [], ◌∷◌, ◌++◌, reverse, length, Some, Option, sym, refl, ap, ◌∙◌, arith, pow_mono}
 use lib.Count.{ones, ones-le}
 use Rattle.std.proofs.lemmas.List.{length-reverse, reverse-append}
 use Rattle.std.proofs.lemmas.Bool.{and_from, and_parts, eqb-false, leb-true, le-leb, lt-ltb, ltb-false, ltb-true, ne_eqb, or_parts}
@@ -11,7 +11,7 @@ use Rattle.network.specs.declared.lanes.Lane.{Lane}
 use Rattle.network.specs.declared.networks.Network.{Network}
 use Rattle.network.proofs.Sets.{standing_below}
 use Rattle.search.specs.Deciding.{decided}
-use Rattle.search.specs.Keeping.{all_given, all_work, best_fits, most_openings, most_pending, shallow, work}
+use Rattle.search.specs.Keeping.{all_given, all_work, best_fits, most_openings, most_pending, shallow}
 use Rattle.search.specs.Opening.{Problem, Progress, dropped, highest, opened, open_from, open_many, open_one, reaches, start_over, too_dear, with_lane, without}
 use Rattle.search.specs.Searching.{is_ended}
 use Rattle.search.specs.declared.branches.Branch.{Branch}

@@ -1,8 +1,8 @@
 -- The highest lane of a set: what is left without it, and a set with it.
-use Rattle.std.proofs.Common.{◌≡◌, ℕ, zero, suc, ◌+◌, ◌-◌, ◌*◌, ◌/◌, ◌%◌, ◌^◌, ◌<◌, ◌≤◌, cond, eqb, sym, refl, ap, ◌∙◌, subst, ap₂, ⊎_elim, one-mul, pow-suc, arith, lit<, pow_pos, pow_mono}
-use lib.Count.{count_leading_zeros, ones, ones_cat, ones-le, ones-ones, ones_step}
+use Rattle.std.proofs.Common.{◌≡◌, ℕ, zero, suc, ◌+◌, ◌-◌, ◌*◌, ◌/◌, ◌%◌, ◌^◌, ◌<◌, ◌≤◌, sym, refl, ap, ◌∙◌, subst, ⊎_elim, pow-suc, arith, pow_pos, pow_mono}
+use lib.Count.{ones, ones_cat, ones-le, ones-ones, ones_step}
 use Rattle.std.proofs.lemmas.Nat.{div_below, leading_top, one_shl}
-use Rattle.std.proofs.lemmas.Bool.{cases_eq, cases_lt, eq-eqb, ne_eqb, cond-true, cond-false}
+use Rattle.std.proofs.lemmas.Bool.{cases_eq}
 use Rattle.network.specs.Sets.{bit}
 use Rattle.network.proofs.Masks.{bit_first, bit_half, bit_low, bit_none, bit_sum, half_below}
 use Rattle.search.specs.Opening.{highest}

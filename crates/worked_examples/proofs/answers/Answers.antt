@@ -1,6 +1,8 @@
-use Rattle.std.proofs.Common.{[], ◌∷◌, refl, ◌∙◌}
+use Rattle.std.proofs.Common.{◌≡◌, [], ◌∷◌, None, refl, ◌∙◌}
 use lib.Count.{ones}
-use Rattle.worked_examples.specs.Examples.{ExamplesHold}
+use Rattle.network.specs.Sets.{set_refusal}
+use Rattle.network.specs.declared.lanes.Mark.TheVariants.{Standing}
+use Rattle.worked_examples.specs.Examples.{ExamplesHold, most, ring, three_depots}
 use Rattle.worked_examples.proofs.Answering.{bound_told, chance_told, joining_told}
 use Rattle.worked_examples.proofs.answers.Goals as goal
 
@@ -8,6 +10,23 @@ use Rattle.worked_examples.proofs.answers.Goals as goal
 hold : ExamplesHold
 unfolding ones
 hold = refl
+
+-- the sets that are asked about have no more lanes than a set may have
+all_three : set_refusal most (three_depots Standing) 7 ≡ None
+unfolding ones
+all_three = refl
+
+all_four : set_refusal most ring 15 ≡ None
+unfolding ones
+all_four = refl
+
+pub ask_chance-requires-3 : goal.ask_chance-requires-3
+ask_chance-requires-3 c =
+    let made = c.three_depots-three.ensures in (λ i. set_refusal (made.most i) (made.lanes i) 7) ∙ all_three
+
+pub ask_chance-requires-4 : goal.ask_chance-requires-4
+ask_chance-requires-4 c =
+    let made = c.ring_of_four-ring.ensures in (λ i. set_refusal (made.most i) (made.lanes i) 15) ∙ all_four
 
 pub returns : goal.returns
 returns c =

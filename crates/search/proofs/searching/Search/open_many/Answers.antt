@@ -1,10 +1,10 @@
-use Rattle.std.proofs.Common.{◌≡◌, ◌≤◌, length, vec_items, vec_len, sym, refl, ap, ◌∙◌, arith}
+use Rattle.std.proofs.Common.{◌≡◌, length, vec_items, vec_len, sym, refl, ap, ◌∙◌, arith}
 use Rattle.std.proofs.lemmas.Bool.{eqb-true}
 use Rattle.network.specs.Networks.{lanes_of}
 use Rattle.search.specs.Deciding.{problem_of}
 use Rattle.search.specs.Opening.{open_many}
 use Rattle.search.specs.Searching.{progress_of}
-use Rattle.search.proofs.Stepping.{Made, few_lanes, made_all, made_next, none_left}
+use Rattle.search.proofs.Stepping.{few_lanes, made_all, made_next, none_left}
 use Rattle.search.proofs.searching.Search.open_many.Goals as goal
 
 pub loop-made-init : goal.loop-made-init

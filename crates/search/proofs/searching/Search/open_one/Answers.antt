@@ -1,9 +1,8 @@
-use Rattle.std.proofs.Common.{◌≡◌, ℕ, ◌+◌, ◌^◌, ◌<◌, ◌≤◌, List, [], ◌∷◌, ◌++◌, reverse, length, vec_items, vec_len, vec_capacity, sym, refl, ap, ◌∙◌, subst, arith}
+use Rattle.std.proofs.Common.{◌≡◌, ◌+◌, ◌≤◌, [], ◌∷◌, ◌++◌, reverse, length, vec_items, vec_capacity, sym, ap, ◌∙◌, subst, arith}
 use Rattle.network.specs.Networks.{lanes_of}
 use Rattle.search.specs.Deciding.{problem_of}
-use Rattle.search.specs.declared.branches.Branch.{Branch}
 use Rattle.search.specs.Keeping.{all_work, most_pending, shallow}
-use Rattle.search.proofs.Stepping.{Kept, Opened, few_lanes, given_newest, keeps, led, newest_two, two_fit}
+use Rattle.search.proofs.Stepping.{Opened, few_lanes, given_newest, keeps, led, newest_two, two_fit}
 use Rattle.search.proofs.searching.Search.open_one.Goals as goal
 use Rattle.search.proofs.searching.Search.open_one.Goals.{in-Dropped, in-Missed, in-Reached, in-Split}
 
@@ -40,7 +39,7 @@ invariant_of-self-2 g c =
       })
     ] in
     let kept = keeps p (length (lanes_of network)) (few_lanes network) (reverse items) self.best self.openings (record { given = c.requires; low = self.shallow; counted = self.counted }) in
-    (done.roomy, (ap (λ x. shallow x.pending) done.is ∙ kept.low, (omega (arith, ap (λ x. x.openings + all_work x.pending) done.is, kept.counted), tt)))
+    record { roomy = done.roomy; shallow = ap (λ x. shallow x.pending) done.is ∙ kept.low; counted = omega (arith, ap (λ x. x.openings + all_work x.pending) done.is, kept.counted) }
 
 pub returns : goal.returns
 returns g c =

@@ -1,9 +1,8 @@
-use Rattle.std.proofs.Common.{◌≡◌, ℕ, ◌+◌, ◌≤◌, List, [], ◌∷◌, ◌++◌, reverse, length, vec_items, vec_capacity, ap, ◌∙◌, arith}
+use Rattle.std.proofs.Common.{◌≡◌, ℕ, ◌+◌, ◌≤◌, [], ◌∷◌, reverse, length, vec_items, vec_capacity, ap, ◌∙◌, arith}
 use Rattle.network.specs.Networks.{lanes_of}
 use Rattle.search.specs.Keeping.{all_work, most_openings, most_pending, shallow}
 use Rattle.search.specs.Opening.{Progress, start_over}
-use Rattle.search.specs.declared.branches.Branch.{Branch}
-use Rattle.search.proofs.Stepping.{Kept, few_lanes, newest_alone, nothing_kept, starts}
+use Rattle.search.proofs.Stepping.{few_lanes, newest_alone, nothing_kept, starts}
 use Rattle.search.proofs.searching.Search.restart.Goals as goal
 
 pub push_reserved-requires : goal.push_reserved-requires
