@@ -1,9 +1,9 @@
 -- What a change of the lanes leaves of a sheet, and what holds of its parts afterwards.
-use Rattle.std.proofs.Common.{◌≡◌, ℕ, ◌≤◌, true, cond, List, [], length, is_some, Some, None, Ok, Err, Option, Result, sym, refl, ap, ◌∙◌, subst}
+use Rattle.std.proofs.Common.{◌≡◌, ℕ, ◌≤◌, true, List, [], ◌∷◌, ◌++◌, length, is_some, Some, None, Ok, Err, Option, Result, sym, refl, ap, ◌∙◌, subst}
 use Rattle.std.proofs.lemmas.Bool.{cond-false, cond-true}
 use Rattle.network.specs.Answers.{told}
 use Rattle.network.specs.Changes.{mark_refusal, marked_at}
-use Rattle.network.specs.Networks.{Changed, lanes_of, most_of, parts_of}
+use Rattle.network.specs.Networks.{Added, Changed, add_refusal, lanes_of, most_of, parts_of}
 use Rattle.network.specs.declared.lanes.Lane.{Lane}
 use Rattle.network.specs.declared.lanes.Mark.{Mark}
 use Rattle.network.specs.declared.lanes.Mark.TheVariants.{Struck, Standing}
@@ -14,7 +14,7 @@ use Rattle.bounds.specs.Questions.{Asked}
 use Rattle.search.specs.Keeping.{all_given, best_fits}
 use Rattle.search.specs.Opening.{Progress}
 use Rattle.search.proofs.Stepping.{few_lanes, starts}
-use Rattle.sheet.specs.Calls.{Stepped, after, carried, changed, mark_call, verdict, with_lanes}
+use Rattle.sheet.specs.Calls.{Stepped, carried, changed, mark_call, verdict, with_lanes}
 use Rattle.sheet.specs.Goals.{least_for}
 use Rattle.sheet.specs.Models.{Contents, Model, fresh, state_by}
 use Rattle.sheet.specs.Sheets.{contents_of}
@@ -69,6 +69,9 @@ fresh_facts c goal least state x few reached progress stands =
     subst (Facts c goal least state) (sym progress) (fresh_given c.lanes few goal, (fresh_fits c.lanes (length c.lanes) c.most goal, (reached, (stands, tt))))
 
 -- ---- other lanes in the network
+
+pub as_changed : {before later : Network} {l : Lane} {r : Result (Unit {0}) Refusal} → Added before l r later → Changed before (add_refusal before l) (lanes_of before ++ (l ∷ [])) r later
+as_changed added = record { answer = added.answer; scale = added.scale; depots = added.depots; lanes = added.lanes }
 
 module _ (before : Network) (v : Option Refusal) (ls : List Lane) (r : Result (Unit {0}) Refusal) (later : Network) (was : Changed before v ls r later) where
   contents_kept : (e : Refusal) → r ≡ Err e → contents_of later ≡ contents_of before

@@ -10,18 +10,17 @@ use Rattle.reliability.proofs.Meaning.{sound_ends, total_told}
 use Rattle.reliability.proofs.Natural.{natural_laws}
 use Rattle.bounds.specs.Meaning.{Meaning}
 use Rattle.bounds.specs.Questions.{Asked, Checked}
-use Rattle.search.specs.Opening.{Problem, Progress, chance_of, open_many, question, start}
-use Rattle.search.specs.Plans.{Outcome, Plan, most_granted}
+use Rattle.search.specs.Opening.{Problem, Progress, chance_of, open_many, question}
+use Rattle.search.specs.Plans.{Outcome, most_granted}
 use Rattle.search.specs.declared.branches.Branch.{Branch}
 use Rattle.search.proofs.Outcomes.{outcome}
 use Rattle.sheet.specs.Calls.{after, granted, size_refusal}
-use Rattle.sheet.specs.Models.{Contents, Model, fresh, plan_in, problem, report_of, searched_state, state_by, told_plan}
+use Rattle.sheet.specs.Models.{Contents, Model, fresh, problem, report_of, searched_state, state_by, told_plan}
 use Rattle.sheet.specs.Runs.{Fresh, after_run, last_change, sum_of}
 use Rattle.sheet.specs.Statement.{Searched, Statement}
 use Rattle.sheet.specs.declared.words.Call.{Call}
 use Rattle.sheet.specs.declared.words.Call.TheVariants.{Grant}
 use Rattle.sheet.specs.declared.words.Goal.{Goal}
-use Rattle.sheet.specs.declared.words.State.TheVariants.{Found, NoneFound}
 use Rattle.sheet.proofs.Granting.{Since, far, since_start}
 use Rattle.sheet.proofs.States.{found_status, none_status, status_found, status_none}
 

@@ -1,5 +1,5 @@
 -- What a grant leaves of a sheet that works, and of one that has ended.
-use Rattle.std.proofs.Common.{◌≡◌, ℕ, ◌+◌, ◌≤◌, Bool, true, false, cond, ◌⊎◌, List, [], ◌∷◌, length, is_some, Some, None, Ok, Err, Option, Result, sym, refl, ap, ◌∙◌, subst, arith}
+use Rattle.std.proofs.Common.{◌≡◌, ℕ, ◌+◌, ◌≤◌, Bool, true, false, cond, ◌⊎◌, [], length, is_some, Some, None, Ok, Err, Option, Result, sym, refl, ap, ◌∙◌, subst}
 use Rattle.network.specs.Answers.{first_of, told}
 use Rattle.network.specs.Networks.{lanes_of, most_of, parts_of}
 use Rattle.network.specs.declared.networks.Network.{Network}
@@ -8,18 +8,17 @@ use Rattle.bounds.specs.Questions.{Asked}
 use Rattle.search.specs.Deciding.{problem_of}
 use Rattle.search.specs.Keeping.{all_given, all_work, best_fits, most_openings, shallow}
 use Rattle.search.specs.Opening.{Progress, open_many}
-use Rattle.search.specs.declared.branches.Branch.{Branch}
 use Rattle.search.proofs.Counting.{idle}
 use Rattle.search.proofs.Stepping.{Kept, few_lanes, fits_many, keeps_many}
 use Rattle.sheet.specs.Calls.{Stepped, carried, goal_missing, granted_by, size_refusal, verdict}
 use Rattle.sheet.specs.Goals.{least_chance, least_for}
-use Rattle.sheet.specs.Models.{Contents, Model, problem, searched_state, state_by, state_of}
+use Rattle.sheet.specs.Models.{Model, problem, searched_state, state_by, state_of}
 use Rattle.sheet.specs.Sheets.{contents_of}
 use Rattle.sheet.specs.declared.words.Call.{Call}
 use Rattle.sheet.specs.declared.words.Call.TheVariants.{Grant}
 use Rattle.sheet.specs.declared.words.Goal.{Goal}
 use Rattle.sheet.specs.declared.words.State.{State}
-use Rattle.sheet.specs.declared.words.State.TheVariants.{Drafting, Working, Found, NoneFound}
+use Rattle.sheet.specs.declared.words.State.TheVariants.{Found, NoneFound}
 use Rattle.sheet.proofs.Changing.{Facts, accepted_step, refused_step}
 use Rattle.sheet.proofs.States.{ended_goal}
 

@@ -1,6 +1,5 @@
 -- Goals: g parts of S^r. Which are refused, and the least chance that reaches one.
 use Rattle.std.specs.Prelude.{ℕ, ◌-◌, ◌*◌, ◌^◌, cond, ◌||◌, Some, None, Option, ◌==◌, nat_lt}
-use Rattle.network.specs.Answers.{first_of}
 use Rattle.network.specs.declared.refusals.Refusal.{Refusal}
 use Rattle.network.specs.declared.refusals.Refusal.TheVariants.{PartsOutOfRange, PlacesOutOfRange}
 use Rattle.sheet.specs.declared.words.Goal.{Goal}

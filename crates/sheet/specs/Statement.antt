@@ -1,5 +1,5 @@
 -- The statement over every run: when found and none are told, which set is found, that grants add up, and how many openings are told.
-use Rattle.std.specs.Prelude.{◌≡◌, ℕ, suc, ◌-◌, ◌^◌, ◌≤◌, min, Bool, List, length, Some, Option}
+use Rattle.std.specs.Prelude.{◌≡◌, ℕ, suc, ◌-◌, ◌^◌, ◌≤◌, min, Bool, List, length, Some}
 use Rattle.network.specs.Sets.{chosen, standing_lanes}
 use Rattle.network.specs.declared.lanes.Lane.{Lane}
 use Rattle.reliability.specs.Reliability.{lanes_chance}

@@ -1,5 +1,4 @@
-use Rattle.std.proofs.Common.{◌≡◌, ℕ, ◌-◌, ◌*◌, ◌^◌, ◌≤◌, sym, ap, ◌∙◌, ap₂, arith}
-use Rattle.network.specs.Scales.{full_limit}
+use Rattle.std.proofs.Common.{◌≡◌, ℕ, ◌-◌, ◌*◌, ◌^◌, ◌≤◌, ap, ◌∙◌, ap₂, arith}
 use Rattle.sheet.proofs.Powers.{goal_within, power_within}
 use Rattle.sheet.proofs.goals.find_least.Goals as goal
 

@@ -1,9 +1,7 @@
-use Rattle.std.proofs.Common.{◌≡◌, refl}
-use Rattle.network.proofs.Offers.{left_with, passed, refused}
+use Rattle.network.proofs.Offers.{passed}
 use Rattle.search.specs.Searching.{progress_of}
-use Rattle.sheet.specs.Sheets.{model_of}
 use Rattle.sheet.proofs.States.{working_goal}
-use Rattle.sheet.proofs.Working.{granted_facts, granted_step, refused_grant}
+use Rattle.sheet.proofs.Working.{granted_facts, granted_step}
 use Rattle.sheet.proofs.sheets.Sheet.work.Goals as goal
 
 pub invariant_of-self : goal.invariant_of-self
@@ -11,7 +9,8 @@ invariant_of-self g c =
     let self = c.args.self.now in
     let x = progress_of self.seeking in
     let goal = working_goal self.goal x self.state self.stands c.requires in
-    granted_facts self.network (g.B.Bound.tells self.bound) self.goal self.least self.state x (self.given, (self.fits, (self.reached, (self.stands, tt)))) goal.0 goal.1 c.args.openings c.find_state-self.result (progress_of c.open_many.new.self) self.seeking.shallow self.seeking.counted c.open_many.ensures c.find_state-self.ensures
+    let facts = granted_facts self.network (g.B.Bound.tells self.bound) self.goal self.least self.state x (self.given, (self.fits, (self.reached, (self.stands, tt)))) goal.0 goal.1 c.args.openings c.find_state-self.result (progress_of c.open_many.new.self) self.seeking.shallow self.seeking.counted c.open_many.ensures c.find_state-self.ensures in
+    record { given = facts.0; fits = facts.1.0; reached = facts.1.1.0; stands = facts.1.1.1.0 }
 
 pub returns : goal.returns
 returns g c =
