@@ -1,7 +1,6 @@
 -- The run of the example: what the definitions compute it to, and what the statement says of it.
-use Rattle.std.proofs.Common.{◌≡◌, ℕ, min, Some, Option, sym, refl, ap, ◌∙◌, subst, arith}
+use Rattle.std.proofs.Common.{◌≡◌, min, Some, Option, sym, refl, ap, ◌∙◌, subst, arith}
 use lib.Count.{count_leading_zeros, ones}
-use Rattle.bounds.specs.Numbers.{plain_tells}
 use Rattle.search.specs.Plans.{Cheapest, FullCount, most_granted}
 use Rattle.sheet.specs.Calls.{after, goal_of}
 use Rattle.sheet.specs.Models.{Model, plan_in, report_of}

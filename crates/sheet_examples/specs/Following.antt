@@ -6,7 +6,7 @@ use Rattle.search.specs.Opening.{Problem}
 use Rattle.search.specs.Plans.{Cheapest, FullCount}
 use Rattle.sheet.specs.Calls.{after, goal_of, opened}
 use Rattle.sheet.specs.Models.{Model, problem}
-use Rattle.sheet.specs.Runs.{after_run, last_change, sum_of}
+use Rattle.sheet.specs.Runs.{after_run}
 use Rattle.sheet.specs.declared.words.Call.{Call}
 use Rattle.sheet.specs.declared.words.Call.TheVariants.{Offer, Strike, StateGoal, Grant}
 use Rattle.sheet.specs.declared.words.State.TheVariants.{Found}

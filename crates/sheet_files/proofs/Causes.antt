@@ -1,5 +1,5 @@
 -- What a `?` leaves with, and what the sheet's refusals say of a record.
-use Rattle.std.proofs.Common.{◌≡◌, ℕ, ◌≤◌, ltb, List, length, is_some, IsErrAnd, Some, None, Ok, Err, Option, Result, sym, refl, ap, ◌∙◌, MatchResult}
+use Rattle.std.proofs.Common.{◌≡◌, ℕ, ◌≤◌, ltb, List, length, is_some, IsErrAnd, Some, None, Ok, Err, Option, Result, sym, ap, ◌∙◌, MatchResult}
 use mathlib.Core.Path.{subst⁻¹}
 use Rattle.std.proofs.lemmas.Bool.{cond-false, le-ltb}
 use Rattle.std.proofs.lemmas.Result.{err_from_is_err_and}

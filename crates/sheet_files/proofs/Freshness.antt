@@ -1,5 +1,5 @@
 -- A sheet that was read is as a change leaves it, so a run of calls may begin there.
-use Rattle.std.proofs.Common.{◌≡◌, ℕ, zero, suc, ◌+◌, Bool, true, false, cond, eqb, ltb, List, length, is_some, Some, None, Ok, Err, Option, Result, sym, refl, ap, ◌∙◌, subst, arith}
+use Rattle.std.proofs.Common.{◌≡◌, ℕ, zero, suc, ◌+◌, Bool, true, false, cond, eqb, ltb, List, length, is_some, Some, None, Ok, Err, Option, Result, refl, subst, arith}
 use Rattle.network.specs.declared.refusals.Refusal.{Refusal}
 use Rattle.bounds.specs.Questions.{Asked}
 use Rattle.records.specs.Records.{Taken, take_record}
@@ -11,7 +11,7 @@ use Rattle.records.specs.declared.kinds.Stage.TheVariants.{First}
 use Rattle.sheet.specs.Calls.{after, carried, verdict}
 use Rattle.sheet.specs.Models.{Model}
 use Rattle.sheet.specs.Runs.{Fresh}
-use Rattle.sheet.specs.declared.words.Call.TheVariants.{Strike, StateGoal}
+use Rattle.sheet.specs.declared.words.Call.TheVariants.{Strike}
 use Rattle.sheet_files.specs.Applying.{as_cause, called, lane_by, offer_in, open_by, stage_of, struck_by, then_struck}
 use Rattle.sheet_files.specs.Bodies.{mark_in}
 use Rattle.sheet_files.specs.Files.{by_kind, fault, go_on, place_after, read_file, read_first, read_from, read_taken}

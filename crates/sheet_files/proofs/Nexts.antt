@@ -1,7 +1,7 @@
 -- One record that was taken and carried out is one step of reading; the first one opens the sheet.
 use Rattle.std.proofs.Common.{◌≡◌, ℕ, Ok, Err, Result, sym, refl, ap, ◌∙◌, subst, MatchResult}
 use Rattle.records.specs.Reading.{Step, body_in, kind_in, left_of, taken_as}
-use Rattle.records.specs.Records.{Taken, take_record}
+use Rattle.records.specs.Records.{take_record}
 use Rattle.records.specs.declared.faults.Misfit.{Misfit}
 use Rattle.records.specs.declared.kinds.Stage.{Stage}
 use Rattle.records.specs.declared.kinds.Stage.TheVariants.{First}
@@ -11,7 +11,7 @@ use Rattle.bounds.specs.Questions.{Asked}
 use Rattle.sheet.specs.Models.{Model}
 use Rattle.sheet_files.specs.Applying.{open_by, stage_of}
 use Rattle.sheet_files.specs.Files.{by_kind}
-use Rattle.sheet_files.specs.Reading.{Carried, Next, Opened, first_by, next_by}
+use Rattle.sheet_files.specs.Reading.{Next, Opened, first_by, next_by}
 use Rattle.sheet_files.specs.declared.faults.Cause.{Cause}
 
 module _ (m : Model) (before later : Reader) (stage : Stage) (is_stage : stage ≡ stage_of m) (x : Record) (step : Step before stage (Ok x) later) where

@@ -1,5 +1,5 @@
 -- Reading goes on from record to record: what is left to read is the rest of the same file, with the sheet so far.
-use Rattle.std.proofs.Common.{◌≡◌, ℕ, zero, suc, ◌+◌, ◌-◌, ◌<◌, ◌≤◌, Bool, true, false, cond, eqb, List, length, drop, Ok, Err, Result, sym, refl, ap, ◌∙◌, arith}
+use Rattle.std.proofs.Common.{◌≡◌, ℕ, zero, suc, ◌+◌, ◌≤◌, true, false, eqb, List, length, drop, Ok, Err, Result, sym, refl, ap, ◌∙◌, arith}
 use Rattle.std.proofs.lemmas.List.{length-drop}
 use Rattle.std.proofs.lemmas.Bool.{cond-false, cond-true, eqb-false}
 use Rattle.bounds.specs.Questions.{Asked}
@@ -9,11 +9,11 @@ use Rattle.records.specs.Records.{Taken, header_bytes, take_record}
 use Rattle.records.specs.declared.faults.Misfit.{Misfit}
 use Rattle.records.specs.declared.kinds.Stage.TheVariants.{First}
 use Rattle.records.specs.declared.readers.Reader.{Reader}
-use Rattle.records.proofs.Slices.{Whole, taken_whole}
+use Rattle.records.proofs.Slices.{taken_whole}
 use Rattle.sheet.specs.Models.{Model}
-use Rattle.sheet_files.specs.Applying.{open_by, stage_of}
-use Rattle.sheet_files.specs.Files.{by_kind, fault, go_on, place_after, read_file, read_first, read_from, read_taken}
-use Rattle.sheet_files.specs.Reading.{Carried, Next, Opened, first_by, next_by}
+use Rattle.sheet_files.specs.Applying.{stage_of}
+use Rattle.sheet_files.specs.Files.{fault, go_on, place_after, read_file, read_first, read_from, read_taken}
+use Rattle.sheet_files.specs.Reading.{Carried, Opened, first_by, next_by}
 use Rattle.sheet_files.specs.declared.faults.Cause.{Cause}
 use Rattle.sheet_files.specs.declared.faults.Fault.{Fault}
 

@@ -1,5 +1,5 @@
 -- What the body of each record of a sheet file says, byte by byte.
-use Rattle.std.specs.Prelude.{ℕ, Bool, cond, ◌||◌, List, take, drop, slice_index}
+use Rattle.std.specs.Prelude.{ℕ, List, take, drop, slice_index}
 use Rattle.records.specs.Bytes.{written}
 
 -- byte i of a body

@@ -1,4 +1,4 @@
-use Rattle.std.proofs.Common.{◌≡◌, ap, ◌∙◌}
+use Rattle.std.proofs.Common.{ap, ◌∙◌}
 use Rattle.sheet.specs.Calls.{after}
 use Rattle.sheet.specs.Models.{Model}
 use Rattle.sheet.specs.declared.words.Call.TheVariants.{Offer}

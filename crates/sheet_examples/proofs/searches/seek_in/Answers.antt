@@ -1,4 +1,4 @@
-use Rattle.std.proofs.Common.{◌≡◌, ap, ◌∙◌}
+use Rattle.std.proofs.Common.{ap, ◌∙◌}
 use Rattle.sheet.specs.Models.{Model, report_of}
 use Rattle.sheet.specs.Runs.{after_run}
 use Rattle.sheet_examples.specs.Searches.{search_for}

@@ -1,6 +1,6 @@
-use Rattle.std.proofs.Common.{◌≡◌, ℕ, ◌+◌, ◌≤◌, length, sym, ap, ◌∙◌, arith}
+use Rattle.std.proofs.Common.{ℕ, ◌+◌, ◌≤◌, length, sym, ap, ◌∙◌, arith}
 use Rattle.sheet.specs.Calls.{opening_refusal}
-use Rattle.sheet_files.specs.Bodies.{depots_in, most_in, scale_in}
+use Rattle.sheet_files.specs.Bodies.{depots_in, most_in}
 use Rattle.sheet_files.proofs.Causes.{cases_left, refused_cause}
 use Rattle.sheet_files.proofs.Numbers.{read_two}
 use Rattle.sheet_files.proofs.bodies.open_sheet.Goals as goal

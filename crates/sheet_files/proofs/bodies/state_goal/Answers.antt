@@ -1,4 +1,4 @@
-use Rattle.std.proofs.Common.{◌≡◌, ℕ, ◌+◌, ◌≤◌, length, sym, ap, ◌∙◌, arith}
+use Rattle.std.proofs.Common.{ℕ, ◌+◌, ◌≤◌, length, sym, ap, ◌∙◌, arith}
 use Rattle.network.proofs.Offers.{refused}
 use Rattle.sheet.specs.Calls.{verdict}
 use Rattle.sheet.specs.Sheets.{model_of}

@@ -3,7 +3,7 @@ use Rattle.records.specs.Reading.{left_of}
 use Rattle.sheet.specs.Sheets.{model_of}
 use Rattle.sheet_files.specs.Files.{fault}
 use Rattle.sheet_files.proofs.Freshness.{file_fresh}
-use Rattle.sheet_files.proofs.Progressing.{Sofar, first_counted, first_read, sofar_end, sofar_fault, sofar_start, sofar_step}
+use Rattle.sheet_files.proofs.Progressing.{first_counted, first_read, sofar_end, sofar_fault, sofar_start, sofar_step}
 use Rattle.sheet_files.proofs.reading.read.Goals as goal
 
 pub loop-reader-init : goal.loop-reader-init
