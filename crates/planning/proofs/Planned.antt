@@ -1,15 +1,14 @@
 -- A sheet that was read and granted all openings, and the answer that follows.
-use Rattle.std.proofs.Common.{◌≡◌, ℕ, List, is_some, Some, None, Ok, Err, Option, Result, sym, refl, ap, ◌∙◌}
+use Rattle.std.proofs.Common.{◌≡◌, ℕ, List, is_some, None, Ok, Err, Option, Result, sym, ap, ◌∙◌}
 use Rattle.std.proofs.lemmas.Bool.{cond-false}
 use Rattle.network.specs.declared.refusals.Refusal.{Refusal}
 use Rattle.network.proofs.Offers.{passed, refused}
 use Rattle.search.specs.Plans.{most_granted}
-use Rattle.sheet.specs.Calls.{Stepped, granted, verdict}
+use Rattle.sheet.specs.Calls.{Stepped, verdict}
 use Rattle.sheet.specs.Models.{Model}
 use Rattle.sheet.specs.declared.words.Call.TheVariants.{Grant}
 use Rattle.sheet_files.specs.Files.{read_file}
 use Rattle.planning.specs.Answers.{answer_to, console_tells, granted_answer, read_answer, reported}
-use Rattle.planning.specs.declared.answers.Answer.{Answer}
 use Rattle.planning.specs.declared.answers.Answer.TheVariants.{Refused}
 
 module _ (file : List ℕ) (m : Model) (read : read_file console_tells file ≡ Ok m) (r : Result (Unit {0}) Refusal) (later : Model) (step : Stepped m (Grant most_granted) r later) where

@@ -1,5 +1,4 @@
-use Rattle.std.proofs.Common.{◌≡◌, ℕ, ◌^◌, ap, ◌∙◌, ap₂}
-use Rattle.bounds.specs.Numbers.{depot_tells, lesser_tells, whole_tells}
+use Rattle.std.proofs.Common.{ℕ, ◌^◌, ap, ◌∙◌, ap₂}
 use Rattle.sheet.specs.declared.words.Report.{Report}
 use Rattle.planning.specs.Answers.{told_by}
 use Rattle.planning.proofs.Planned.{plan_refused, plan_told}
