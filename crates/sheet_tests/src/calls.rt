@@ -96,7 +96,7 @@ pub fn follow<B: Bound>(
 ) -> Result<(), Fail> {
     for (i, (act, told)) in steps.iter().enumerate() {
         perform(sheet, *act)?;
-        tells(rt, sheet, *told).note(format_args!("step {i}"))?;
+        assert_eq!(rt; sheet.report(), report_of(*told), "step {i}");
     }
     Ok(())
 }

@@ -26,10 +26,11 @@ pub const GOALS: [(u8, u64, u64); GOAL_COUNT] = [
     (2, 99, 99_000),
 ];
 
-// A family's lanes with the chances of their sets, and how many of them a set may have.
+// A family's lanes with the chances of their sets, and how many of them a set may have. The way names it among its family.
 #[derive(Clone, Copy)]
 pub struct Case<'a> {
     pub depots: u8,
+    pub way: u32,
     pub lanes: &'a [Lane],
     pub chances: &'a [u64; SETS],
     pub most: u8,

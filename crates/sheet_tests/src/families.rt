@@ -4,6 +4,7 @@ use crate::sheets::open;
 use bounds::Bound;
 use network::{Lane, Mark};
 use sheet::Sheet;
+use std::alloc::AllocGlobal;
 use std::test::*;
 
 // The ways to take up to five lanes from six, repetitions and order counted.
@@ -109,7 +110,7 @@ fn offer_all<B: Bound>(sheet: &mut Sheet<B>, lanes: &[Lane]) -> Result<(), Fail>
 
 // A sheet with these lanes, and without a goal.
 pub fn offered<B: Bound + Drop>(
-    rt: &HostRuntime,
+    rt: &impl AllocGlobal,
     most: u8,
     depots: u8,
     bound: B,

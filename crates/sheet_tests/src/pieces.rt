@@ -4,6 +4,8 @@ use crate::families::{WAYS, offered, take_lanes};
 use bounds::{Bound, Depot, Lesser, Plain, Whole};
 use network::Lane;
 use sheet::{Report, Sheet, State};
+use std::alloc::AllocGlobal;
+use std::process::Abort;
 use std::test::*;
 
 const MOST_LANES: u8 = 5;
@@ -11,48 +13,54 @@ const MOST_LANES: u8 = 5;
 // One to eleven openings make 66, and five lanes take 63 at most.
 const LARGEST_PIECE: u32 = 11;
 
-fn grant_pieces<B: Bound>(sheet: &mut Sheet<B>, whole: Report) -> Result<(), Fail> {
+fn grant_pieces<B: Bound>(
+    rt: &impl Abort,
+    sheet: &mut Sheet<B>,
+    whole: Report,
+    way: u32,
+) -> Result<(), Fail> {
     let mut granted: u32 = 0;
     for piece in 1..=LARGEST_PIECE {
         perform(sheet, Act::Grant(piece))?;
         granted = granted.saturating_add(piece);
         let report = sheet.report();
-        assert_eq!(report.openings, granted.min(whole.openings));
+        assert_eq!(rt; report.openings, granted.min(whole.openings), "way {way}");
         let works = matches!(report.state, State::Working);
-        assert_eq!(works, granted < whole.openings);
+        assert_eq!(rt; works, granted < whole.openings, "way {way}");
     }
-    assert_eq!(sheet.report(), whole);
+    assert_eq!(rt; sheet.report(), whole, "way {way}");
     Ok(())
 }
 
-fn compare_goals<B: Bound>(sheet: &mut Sheet<B>) -> Result<(), Fail> {
+fn compare_goals<B: Bound>(rt: &impl Abort, sheet: &mut Sheet<B>, way: u32) -> Result<(), Fail> {
     for (places, parts) in [(1, 5), (1, 8), (2, 95)] {
         let whole = seek(sheet, places, parts)?;
         perform(sheet, Act::Goal(places, parts))?;
-        grant_pieces(sheet, whole)?;
+        grant_pieces(rt, sheet, whole, way)?;
     }
     Ok(())
 }
 
 fn compare<B: Bound + Drop>(
-    rt: &HostRuntime,
+    rt: &(impl Abort + AllocGlobal),
     depots: u8,
     bound: B,
     lanes: &[Lane],
+    way: u32,
 ) -> Result<(), Fail> {
     let mut sheet = offered(rt, MOST_LANES, depots, bound, lanes)?;
-    compare_goals(&mut sheet)
+    compare_goals(rt, &mut sheet, way)
 }
 
-fn compare_all(rt: &HostRuntime, depots: u8) -> Result<(), Fail> {
+fn compare_all(rt: &(impl Abort + AllocGlobal), depots: u8) -> Result<(), Fail> {
     let lesser = Lesser {
         first: Depot,
         second: Whole,
     };
     for way in 0..WAYS {
         let taken = take_lanes(depots, way);
-        compare(rt, depots, Plain, taken.lanes()).note(format_args!("way {way}, plain"))?;
-        compare(rt, depots, lesser, taken.lanes()).note(format_args!("way {way}, lesser"))?;
+        compare(rt, depots, Plain, taken.lanes(), way)?;
+        compare(rt, depots, lesser, taken.lanes(), way)?;
     }
     Ok(())
 }

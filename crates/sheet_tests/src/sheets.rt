@@ -1,13 +1,14 @@
 // Sheets that the tests open.
 use bounds::{Bound, Plain};
 use sheet::{Sheet, SheetRoom};
+use std::alloc::AllocGlobal;
 use std::test::*;
 
 pub const PARTS: u16 = 10;
 
 // Without lanes and without a goal.
 pub fn open<B: Bound + Drop>(
-    rt: &HostRuntime,
+    rt: &impl AllocGlobal,
     most: u8,
     depots: u8,
     bound: B,
@@ -17,7 +18,7 @@ pub fn open<B: Bound + Drop>(
 }
 
 // Three depots, a lane between each two.
-pub fn open_three(rt: &HostRuntime) -> Result<Sheet<Plain>, Fail> {
+pub fn open_three(rt: &impl AllocGlobal) -> Result<Sheet<Plain>, Fail> {
     let mut sheet = open(rt, 4, 3, Plain)?;
     sheet.offer(0, 1, 9, 4)?;
     sheet.offer(1, 2, 9, 5)?;
@@ -26,7 +27,7 @@ pub fn open_three(rt: &HostRuntime) -> Result<Sheet<Plain>, Fail> {
 }
 
 // Two depots and twenty equal lanes between them.
-pub fn open_twenty(rt: &HostRuntime) -> Result<Sheet<Plain>, Fail> {
+pub fn open_twenty(rt: &impl AllocGlobal) -> Result<Sheet<Plain>, Fail> {
     let mut sheet = open(rt, 4, 2, Plain)?;
     for _ in 0..20 {
         sheet.offer(0, 1, 9, 4)?;
