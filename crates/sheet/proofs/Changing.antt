@@ -52,9 +52,12 @@ mark_carried m Standing lane = refl
 
 abbrev pub Facts : Contents → Option Goal → ℕ → State → Progress → Type 0
 Facts c goal least state x =
-    (all_given (length c.lanes) x.pending ≡ true)
-    × ((best_fits (length c.lanes) c.most x.best ≡ true)
-    × ((least ≡ least_for c.parts c.most goal) × ((state ≡ state_by goal x) × Unit {0})))
+    record {
+      given : all_given (length c.lanes) x.pending ≡ true;
+      fits : best_fits (length c.lanes) c.most x.best ≡ true;
+      reached : least ≡ least_for c.parts c.most goal;
+      stands : state ≡ state_by goal x;
+    }
 
 fresh_given : (ls : List Lane) → length ls ≤ 20 → (goal : Option Goal) → all_given (length ls) (fresh ls goal).pending ≡ true
 fresh_given ls few None = refl
@@ -66,7 +69,7 @@ fresh_fits ls n K (Some goal) = refl
 
 pub fresh_facts : (c : Contents) (goal : Option Goal) (least : ℕ) (state : State) (x : Progress) → length c.lanes ≤ 20 → least ≡ least_for c.parts c.most goal → x ≡ fresh c.lanes goal → state ≡ state_by goal (fresh c.lanes goal) → Facts c goal least state x
 fresh_facts c goal least state x few reached progress stands =
-    subst (Facts c goal least state) (sym progress) (fresh_given c.lanes few goal, (fresh_fits c.lanes (length c.lanes) c.most goal, (reached, (stands, tt))))
+    subst (Facts c goal least state) (sym progress) (record { given = fresh_given c.lanes few goal; fits = fresh_fits c.lanes (length c.lanes) c.most goal; reached = reached; stands = stands })
 
 -- ---- other lanes in the network
 

@@ -31,7 +31,7 @@ refused_grant m g stated openings r e too_large answer = refused_step m (Grant o
 
 module _ (network : Network) (tell : Asked → ℕ) (goal : Option Goal) (least : ℕ) (state : State) (x : Progress) (facts : Facts (contents_of network) goal least state x) (g : Goal) (stated : goal ≡ Some g) (openings : ℕ) where
   least_is : least ≡ least_chance (parts_of network) (most_of network) g
-  least_is = facts.1.1.0 ∙ ap (least_for (parts_of network) (most_of network)) stated
+  least_is = facts.reached ∙ ap (least_for (parts_of network) (most_of network)) stated
 
   -- the code's problem is the sheet's
   same_search : open_many (problem_of network least tell) openings x ≡ open_many (problem (contents_of network) tell g) openings x
@@ -47,13 +47,13 @@ module _ (network : Network) (tell : Asked → ℕ) (goal : Option Goal) (least 
   granted_facts later y low counted is stands =
       let p = problem_of network least tell in
       let n = length (lanes_of network) in
-      let kept : Kept n x = record { given = facts.0; low = low; counted = counted } in (
-        ap (λ (z : Progress). all_given n z.pending) is ∙ (keeps_many p n (few_lanes network) openings x kept).given,
-        (
-          ap (λ (z : Progress). best_fits n (most_of network) z.best) is ∙ fits_many p n (few_lanes network) openings x kept facts.1.0,
-          (facts.1.1.0, (stands ∙ sym (ap (λ (q : Option Goal). state_by q y) stated), tt)),
-        ),
-      )
+      let kept : Kept n x = record { given = facts.given; low = low; counted = counted } in
+      record {
+        given = ap (λ (z : Progress). all_given n z.pending) is ∙ (keeps_many p n (few_lanes network) openings x kept).given;
+        fits = ap (λ (z : Progress). best_fits n (most_of network) z.best) is ∙ fits_many p n (few_lanes network) openings x kept facts.fits;
+        reached = facts.reached;
+        stands = stands ∙ sym (ap (λ (q : Option Goal). state_by q y) stated);
+      }
 
 -- a grant on an ended sheet alters nothing
 nothing_pending : (m : Model) (g : Goal) → m.goal ≡ Some g → m.progress.pending ≡ [] → (openings : ℕ) → carried m (Grant openings) ≡ m

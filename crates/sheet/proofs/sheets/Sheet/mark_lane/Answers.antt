@@ -7,8 +7,7 @@ use Rattle.sheet.proofs.sheets.Sheet.mark_lane.Goals as goal
 pub invariant_of-self : goal.invariant_of-self
 invariant_of-self g c =
     let self = c.args.self.now in
-    let facts = refused_facts self.network _ _ _ c.set_mark.new.self c.set_mark.ensures self.goal self.least self.state (progress_of self.seeking) _ c.in_err-set_mark.was (self.given, (self.fits, (self.reached, (self.stands, tt)))) in
-    record { given = facts.0; fits = facts.1.0; reached = facts.1.1.0; stands = facts.1.1.1.0 }
+    refused_facts self.network _ _ _ c.set_mark.new.self c.set_mark.ensures self.goal self.least self.state (progress_of self.seeking) _ c.in_err-set_mark.was (record { given = self.given; fits = self.fits; reached = self.reached; stands = self.stands })
 
 pub returns-in_err-set_mark : goal.returns-in_err-set_mark
 returns-in_err-set_mark g c =
@@ -19,8 +18,7 @@ returns-in_err-set_mark g c =
 pub invariant_of-self-2 : goal.invariant_of-self-2
 invariant_of-self-2 g c =
     let self = c.args.self.now in
-    let facts = changed_facts self.network _ _ _ c.set_mark.new.self c.set_mark.ensures self.goal self.least c.begin-self.result (progress_of c.begin-self.new.seeking) self.reached c.begin-self.ensures.progress c.begin-self.ensures.state in
-    record { given = facts.0; fits = facts.1.0; reached = facts.1.1.0; stands = facts.1.1.1.0 }
+    changed_facts self.network _ _ _ c.set_mark.new.self c.set_mark.ensures self.goal self.least c.begin-self.result (progress_of c.begin-self.new.seeking) self.reached c.begin-self.ensures.progress c.begin-self.ensures.state
 
 pub returns : goal.returns
 returns g c =

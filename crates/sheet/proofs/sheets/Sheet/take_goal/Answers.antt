@@ -13,5 +13,4 @@ invariant_of-self g c =
     let network = c.args.self.now.network in
     let goal = goal_of c.args.places c.args.parts in
     let least : c.in_ok-self.field-0 ≡ least_chance network.scale.parts network.scale.most goal = told_value _ _ _ c.in_ok-self.ensures ∙ ap (λ s. least_chance s.parts s.most goal) c.scale.ensures in
-    let facts = fresh_facts (contents_of network) (Some goal) c.in_ok-self.field-0 c.begin-self.result (progress_of c.begin-self.new.seeking) (few_lanes network) least c.begin-self.ensures.progress c.begin-self.ensures.state in
-    record { given = facts.0; fits = facts.1.0; reached = facts.1.1.0; stands = facts.1.1.1.0 }
+    fresh_facts (contents_of network) (Some goal) c.in_ok-self.field-0 c.begin-self.result (progress_of c.begin-self.new.seeking) (few_lanes network) least c.begin-self.ensures.progress c.begin-self.ensures.state

@@ -9,12 +9,11 @@ invariant_of-self g c =
     let self = c.args.self.now in
     let x = progress_of self.seeking in
     let goal = working_goal self.goal x self.state self.stands c.requires in
-    let facts = granted_facts self.network (g.B.Bound.tells self.bound) self.goal self.least self.state x (self.given, (self.fits, (self.reached, (self.stands, tt)))) goal.0 goal.1 c.args.openings c.find_state-self.result (progress_of c.open_many.new.self) self.seeking.shallow self.seeking.counted c.open_many.ensures c.find_state-self.ensures in
-    record { given = facts.0; fits = facts.1.0; reached = facts.1.1.0; stands = facts.1.1.1.0 }
+    granted_facts self.network (g.B.Bound.tells self.bound) self.goal self.least self.state x (record { given = self.given; fits = self.fits; reached = self.reached; stands = self.stands }) goal.0 goal.1 c.args.openings c.find_state-self.result (progress_of c.open_many.new.self) self.seeking.shallow self.seeking.counted c.open_many.ensures c.find_state-self.ensures
 
 pub returns : goal.returns
 returns g c =
     let self = c.args.self.now in
     let x = progress_of self.seeking in
     let goal = working_goal self.goal x self.state self.stands c.requires in
-    granted_step self.network (g.B.Bound.tells self.bound) self.goal self.least self.state x (self.given, (self.fits, (self.reached, (self.stands, tt)))) goal.0 goal.1 c.args.openings (progress_of c.open_many.new.self) (passed _ tt tt c.in_ok-check_grant.ensures) c.open_many.ensures
+    granted_step self.network (g.B.Bound.tells self.bound) self.goal self.least self.state x (record { given = self.given; fits = self.fits; reached = self.reached; stands = self.stands }) goal.0 goal.1 c.args.openings (progress_of c.open_many.new.self) (passed _ tt tt c.in_ok-check_grant.ensures) c.open_many.ensures
