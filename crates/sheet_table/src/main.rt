@@ -1,12 +1,11 @@
-// Prints every set of the three-depot sheet's lanes with its cost, its chance and whether it connects; then the joining cost,
-// what the upper bounds tell, what four goals find, what one goal takes under three bounds, and the worked searches.
+// Prints what the three-depot sheet answers about every set of its lanes, and the joining cost; then what four goals find,
+// what one goal takes under three bounds, and the worked searches.
 #![tactic(auto)]
 
-use bounds::{Bound, Depot, Lesser, Plain, Question, Whole};
-use network::{Network, Refusal};
+use bounds::{Bound, Depot, Plain, Whole};
+use network::Refusal;
 use sheet::{MOST_GRANTED, Report, Sheet, SheetRoom, State};
 use sheet_examples::{Rooms, follow, open_three, reports};
-use std::alloc::{AllocError, Global};
 
 // What the table tells of a set.
 #[derive(Drop)]
@@ -24,39 +23,22 @@ fn ask<B>(sheet: &Sheet<B>, set: u32) -> Result<Row, Refusal> {
     })
 }
 
-// The numbers of the set's lanes, as "0 2".
-fn name_lanes(heap: Global, network: &Network, set: u32) -> Result<String, AllocError> {
-    let mut names = String::new(heap);
-    for i in 0..network.lanes().len() {
-        if i < 32 && (set >> i) % 2 == 1 {
-            if !names.is_empty() {
-                names.push(' ')?;
-            }
-            let name = i.to_string(heap)?;
-            names.push_str(name.as_str())?;
-        }
-    }
-    Ok(names)
-}
-
 fn print_row<B>(rt: &HostRuntime, sheet: &Sheet<B>, set: u32) -> anyhow::Result<()> {
-    let lanes = name_lanes(rt.alloc(), sheet.network(), set)?;
+    let full = sheet.network().scale().full();
     match ask(sheet, set) {
         Ok(row) => {
             let connected = if row.connected { "yes" } else { "no" };
             println!(rt;
-                "{set:>3}  {lanes:<5}  {:>4}  {:>15}  {connected}",
+                "set {set} cost {} chance {} of {full} connected {connected}",
                 row.cost, row.chance
             )?;
         }
-        Err(refusal) => println!(rt; "{set:>3}  refusal {}", refusal.number())?,
+        Err(refusal) => println!(rt; "set {set} refusal {}", refusal.number())?,
     }
     Ok(())
 }
 
 fn print_table<B>(rt: &HostRuntime, sheet: &Sheet<B>) -> anyhow::Result<()> {
-    let full = sheet.network().scale().full();
-    println!(rt; "set  lanes  cost  chance of {full}  connected")?;
     for set in 0..8 {
         print_row(rt, sheet, set)?;
     }
@@ -64,24 +46,6 @@ fn print_table<B>(rt: &HostRuntime, sheet: &Sheet<B>) -> anyhow::Result<()> {
         Some(cost) => println!(rt; "joining cost {cost}")?,
         None => println!(rt; "joining cost absent")?,
     }
-    Ok(())
-}
-
-// What each bound tells for nothing picked and all standing lanes undecided.
-fn print_bounds(rt: &HostRuntime, network: &Network) -> anyhow::Result<()> {
-    let question = Question {
-        network,
-        picked: 0,
-        undecided: network.standing(),
-    };
-    let lesser = Lesser {
-        first: Depot,
-        second: Whole,
-    };
-    println!(rt; "bound plain {}", Plain.tell(question))?;
-    println!(rt; "bound depot {}", Depot.tell(question))?;
-    println!(rt; "bound whole {}", Whole.tell(question))?;
-    println!(rt; "bound lesser of depot and whole {}", lesser.tell(question))?;
     Ok(())
 }
 
@@ -164,7 +128,6 @@ fn print_searches(rt: &HostRuntime, full: u64) -> anyhow::Result<()> {
 fn main(rt: HostRuntime) -> anyhow::Result<()> {
     let mut sheet = open_three(SheetRoom::reserve(rt.alloc())?, Plain);
     print_table(&rt, &sheet)?;
-    print_bounds(&rt, sheet.network())?;
     print_goals(&rt, &mut sheet)?;
     print_openings(&rt)?;
     print_searches(&rt, sheet.network().scale().full())
