@@ -13,43 +13,67 @@ const MOST_LANES: u8 = 5;
 // One to eleven openings make 66, and five lanes take 63 at most.
 const LARGEST_PIECE: u32 = 11;
 
+// What a failed comparison names: the family, the way among it, and the bound.
+#[derive(Clone, Copy)]
+struct Place<'a> {
+    depots: u8,
+    way: u32,
+    bound: &'a str,
+}
+
 fn grant_pieces<B: Bound>(
     rt: &impl Abort,
     sheet: &mut Sheet<B>,
     whole: Report,
-    way: u32,
+    place: Place,
 ) -> Result<(), Fail> {
+    let Place { depots, way, bound } = place;
     let mut granted: u32 = 0;
     for piece in 1..=LARGEST_PIECE {
         perform(sheet, Act::Grant(piece))?;
         granted = granted.saturating_add(piece);
         let report = sheet.report();
-        assert_eq!(rt; report.openings, granted.min(whole.openings), "way {way}");
+        assert_eq!(rt;
+            report.openings,
+            granted.min(whole.openings),
+            "depots {depots}, way {way}, {bound}"
+        );
         let works = matches!(report.state, State::Working);
-        assert_eq!(rt; works, granted < whole.openings, "way {way}");
+        assert_eq!(rt;
+            works,
+            granted < whole.openings,
+            "depots {depots}, way {way}, {bound}"
+        );
     }
-    assert_eq!(rt; sheet.report(), whole, "way {way}");
+    assert_eq!(rt;
+        sheet.report(),
+        whole,
+        "depots {depots}, way {way}, {bound}"
+    );
     Ok(())
 }
 
-fn compare_goals<B: Bound>(rt: &impl Abort, sheet: &mut Sheet<B>, way: u32) -> Result<(), Fail> {
+fn compare_goals<B: Bound>(
+    rt: &impl Abort,
+    sheet: &mut Sheet<B>,
+    place: Place,
+) -> Result<(), Fail> {
     for (places, parts) in [(1, 5), (1, 8), (2, 95)] {
         let whole = seek(sheet, places, parts)?;
         perform(sheet, Act::Goal(places, parts))?;
-        grant_pieces(rt, sheet, whole, way)?;
+        grant_pieces(rt, sheet, whole, place)?;
     }
     Ok(())
 }
 
 fn compare<B: Bound + Drop>(
     rt: &(impl Abort + AllocGlobal),
-    depots: u8,
     bound: B,
     lanes: &[Lane],
-    way: u32,
+    place: Place,
 ) -> Result<(), Fail> {
-    let mut sheet = offered(rt, MOST_LANES, depots, bound, lanes)?;
-    compare_goals(rt, &mut sheet, way)
+    let mut sheet = offered(rt, MOST_LANES, place.depots, bound, lanes)?;
+    compare_goals(rt, &mut sheet, place)
 }
 
 fn compare_all(rt: &(impl Abort + AllocGlobal), depots: u8) -> Result<(), Fail> {
@@ -59,8 +83,17 @@ fn compare_all(rt: &(impl Abort + AllocGlobal), depots: u8) -> Result<(), Fail> 
     };
     for way in 0..WAYS {
         let taken = take_lanes(depots, way);
-        compare(rt, depots, Plain, taken.lanes(), way)?;
-        compare(rt, depots, lesser, taken.lanes(), way)?;
+        let plain = Place {
+            depots,
+            way,
+            bound: "plain",
+        };
+        compare(rt, Plain, taken.lanes(), plain)?;
+        let place = Place {
+            bound: "lesser",
+            ..plain
+        };
+        compare(rt, lesser, taken.lanes(), place)?;
     }
     Ok(())
 }
