@@ -4,8 +4,8 @@
 usage: python3 tools/respell.py [--dry]      at the top of the repository, once, after the kit's port.py
 
 A name is the repository's own if a file of specs/ or proofs/ declares it. Names of the library and those that Rattle
-makes of the code are left alone. It stops, and writes nothing, where two names would fall together, but for a function of src/ of
-the same name as its definition: clauses never name functions.
+makes of the code are left alone. It prints the new names that stand in specs/ or proofs/ already, and goes on: look at each
+before you commit. A module or a path of goals of the same name is no clash.
 """
 import re
 import sys
