@@ -1,26 +1,11 @@
--- A table of scales: looking a scale up row by row, and the rule of all rows by one test that the checker computes.
-use Rattle.std.proofs.Common.{◌≡◌, ℕ, zero, suc, ◌+◌, ◌^◌, ◌<◌, ◌≤◌, Bool, true, ◌&&◌, eqb, ltb, leb, List, [], ◌∷◌, length, get_or, drop, IfSome, Some, None, refl, ap, ◌∙◌, subst, suc-le-suc, zero-le, le_trans, not-suc-le-zero, pow-suc, mul-zero, add-one}
+-- The rule of all rows of a table of scales, by one test that the checker computes.
+use Rattle.std.proofs.Common.{◌≡◌, ℕ, zero, suc, ◌+◌, ◌^◌, ◌<◌, ◌≤◌, Bool, true, ◌&&◌, eqb, ltb, leb, List, [], ◌∷◌, IfSome, Some, refl, ap, ◌∙◌, subst, suc-le-suc, zero-le, le_trans, not-suc-le-zero, pow-suc, mul-zero, add-one}
 use native.Mathlib.Nat.{pow-le-pow_right}
-use Rattle.std.proofs.lemmas.List.{at_drop_more, at_drop_all}
-use Rattle.std.proofs.lemmas.Bool.{and_parts, cond_both, cond-true, cond-false, eq-eqb, ne_eqb, eqb-true, leb-true, ltb-true}
+use Rattle.std.proofs.lemmas.Bool.{and_parts, cond_both, eqb-true, leb-true, ltb-true}
+use Rattle.std.specs.List.{find}
+use Rattle.std.specs.Option.{option_map}
 use Rattle.network.specs.Scales.{Greatest, full_limit, limit_in, admitted_rows}
 use Rattle.network.specs.declared.scales.Row.{Row}
-
-abbrev no_row : Row
-no_row = record { scale = 0; limit = 0 }
-
-module _ (rows : List Row) (S i : ℕ) (within : i < length rows) where
-  -- a row of another scale is passed over
-  pub limit_passed : ((get_or rows i no_row).scale ≡ S → ⊥) → limit_in (drop i rows) S ≡ limit_in (drop (i + 1) rows) S
-  limit_passed other =
-      at_drop_more (λ rest. limit_in rest S) rows i no_row within ∙ cond-false (eqb (get_or rows i no_row).scale S) _ _ (ne_eqb _ S other)
-
-  pub limit_found : (get_or rows i no_row).scale ≡ S → limit_in (drop i rows) S ≡ Some (get_or rows i no_row).limit
-  limit_found same =
-      at_drop_more (λ rest. limit_in rest S) rows i no_row within ∙ cond-true (eqb (get_or rows i no_row).scale S) _ _ (eq-eqb _ S same)
-
-pub limit_missing : (rows : List Row) (S i : ℕ) → length rows ≤ i → limit_in (drop i rows) S ≡ None
-limit_missing rows S i past = at_drop_all (λ rest. limit_in rest S) rows i past
 
 -- the rule as a test
 abbrev greatest_test : Row → Bool
@@ -40,7 +25,7 @@ pub rule_of : (rows : List Row) (S : ℕ) → every_row rows ≡ true → IfSome
 rule_of [] S passed = tt
 rule_of (r ∷ rows) S passed =
     let parts = and_parts (greatest_test r) (every_row rows) passed in
-    cond_both (eqb r.scale S) (Some r.limit) (limit_in rows S) (λ found. IfSome found (λ limit. Greatest S limit))
+    cond_both (eqb r.scale S) (Some r) (find (λ row. eqb row.scale S) rows) (λ found. IfSome (option_map (λ row. row.limit) found) (λ limit. Greatest S limit))
     (λ same. greatest_from r S parts.0 (eqb-true _ S same)) (λ _. rule_of rows S parts.1)
 
 -- the built-in table passes the test, so each of its rows meets the rule

@@ -24,14 +24,13 @@ chance_unfit S l = l.chance == 0 || nat_lt S l.chance
 abbrev pub cost_unfit : Lane → Bool
 cost_unfit l = nat_lt 1000000 l.cost
 
-abbrev pub lane_refusal : ℕ → ℕ → Lane → Option Refusal
-lane_refusal S depots l =
-    cond (ends_unfit depots l) (Some EndsUnfit)
-    (cond (chance_unfit S l) (Some ChanceOutOfRange) (cond (cost_unfit l) (Some CostTooHigh) None))
-
--- the same without the ends: chance, then cost
+-- the chance, then the cost
 abbrev pub price_refusal : ℕ → Lane → Option Refusal
 price_refusal S l = cond (chance_unfit S l) (Some ChanceOutOfRange) (cond (cost_unfit l) (Some CostTooHigh) None)
+
+-- the ends, then the price
+abbrev pub lane_refusal : ℕ → ℕ → Lane → Option Refusal
+lane_refusal S depots l = cond (ends_unfit depots l) (Some EndsUnfit) (price_refusal S l)
 
 -- a lane that is not refused
 abbrev pub sound : ℕ → ℕ → Lane → Bool

@@ -2,6 +2,7 @@ pub mod Answers
 pub mod Changes
 pub mod Connected
 pub mod Lanes
+pub mod Marks
 pub mod Networks
 pub mod Refusals
 pub mod Scales

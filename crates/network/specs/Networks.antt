@@ -34,16 +34,13 @@ pub record Made (network : Network) (S K n : ℕ) (ls : List Lane) : Type 0 wher
 abbrev pub add_refusal : Network → Lane → Option Refusal
 add_refusal network l = offer_refusal (parts_of network) (depots_of network) (length (lanes_of network)) l
 
--- one lane more under the next number, or a refusal that leaves the network as it was
-pub record Added (before : Network) (l : Lane) (r : Result (Unit {0}) Refusal) (after : Network) : Type 0 where
-  pub answer : r ≡ told (add_refusal before l) tt
-  pub scale : after.scale ≡ before.scale
-  pub depots : depots_of after ≡ depots_of before
-  pub lanes : lanes_of after ≡ cond (is_some (add_refusal before l)) (lanes_of before) (lanes_of before ++ (l ∷ []))
-
 -- these lanes in place of the old ones, or a refusal that leaves the network as it was
 pub record Changed (before : Network) (verdict : Option Refusal) (ls : List Lane) (r : Result (Unit {0}) Refusal) (after : Network) : Type 0 where
   pub answer : r ≡ told verdict tt
   pub scale : after.scale ≡ before.scale
   pub depots : depots_of after ≡ depots_of before
   pub lanes : lanes_of after ≡ cond (is_some verdict) (lanes_of before) ls
+
+-- one lane more under the next number, or a refusal
+abbrev pub Added : Network → Lane → Result (Unit {0}) Refusal → Network → Type 0
+Added before l r after = Changed before (add_refusal before l) (lanes_of before ++ (l ∷ [])) r after

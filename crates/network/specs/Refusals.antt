@@ -1,5 +1,6 @@
--- The number of each refusal in the refusal table. Every promise that tells a number tells it by this definition.
-use Rattle.std.specs.Prelude.{ℕ}
+-- The number of each refusal in the refusal table, and how a refusal prints. Every promise that tells a number tells it by this definition.
+use Rattle.std.specs.Prelude.{ℕ, List, ◌++◌, codes}
+use Rattle.std.specs.Fmt.{decimal}
 use Rattle.network.specs.declared.refusals.Refusal.{Refusal}
 use Rattle.network.specs.declared.refusals.Refusal.TheVariants.{ScaleNotAdmitted, SetLimitNotAdmitted, DepotsOutOfRange, EndsUnfit, ChanceOutOfRange, CostTooHigh, LanesFull, NumberNotGiven, MarkedAlready, PlacesOutOfRange, PartsOutOfRange, NoGoal, GrantTooLarge, LaneNotGiven, TooManyLanesNamed, ScratchTooShort}
 
@@ -20,3 +21,7 @@ refusal_number GrantTooLarge = 13
 refusal_number LaneNotGiven = 14
 refusal_number TooManyLanesNamed = 15
 refusal_number ScratchTooShort = 16
+
+-- the bytes that a refusal prints
+abbrev pub refusal_text : Refusal → List ℕ
+refusal_text refusal = codes "refusal " ++ decimal (refusal_number refusal)

@@ -1,5 +1,7 @@
 -- The admitted scales S, each with the greatest number K of lanes in a set, and the rule that every row of such a table meets.
 use Rattle.std.specs.Prelude.{ℕ, ◌+◌, ◌^◌, ◌<◌, ◌≤◌, cond, ◌||◌, List, [], ◌∷◌, Some, None, Option, ◌==◌, nat_lt}
+use Rattle.std.specs.List.{find}
+use Rattle.std.specs.Option.{option_map}
 use Rattle.network.specs.declared.refusals.Refusal.{Refusal}
 use Rattle.network.specs.declared.refusals.Refusal.TheVariants.{ScaleNotAdmitted, SetLimitNotAdmitted}
 use Rattle.network.specs.declared.scales.Row.{Row}
@@ -22,8 +24,7 @@ admitted_rows =
 
 -- the limit of a scale's row, if the table has one
 abbrev pub limit_in : List Row → ℕ → Option ℕ
-limit_in [] S = None
-limit_in (r ∷ rows) S = cond (r.scale == S) (Some r.limit) (limit_in rows S)
+limit_in rows S = option_map (λ row. row.limit) (find (λ row. row.scale == S) rows)
 
 abbrev pub limit_refusal : Option ℕ → ℕ → Option Refusal
 limit_refusal None K = Some ScaleNotAdmitted

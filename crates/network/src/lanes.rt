@@ -1,8 +1,8 @@
 // A lane on offer between two depots, and the check that it passes before a network takes it.
 ghost use Rattle.std.specs.Prelude.{◌≡◌};
 ghost use Rattle.network.specs.Answers.{told};
-ghost use Rattle.network.specs.Changes.{same_mark};
 ghost use Rattle.network.specs.Lanes.{lane_refusal, price_refusal};
+ghost use Rattle.network.specs.Marks.{ReadsMark, mark_number};
 ghost use Rattle.network.specs.Sets.{marked};
 
 use crate::refusals::Refusal;
@@ -14,24 +14,36 @@ pub enum Mark {
     Standing = 1,
 }
 
+// A byte that is the number of no mark.
+#[derive(Clone, Copy, PartialEq, Eq, Debug)]
+pub struct UnknownMark;
+
 impl Mark {
     pub fn stands(self) -> bool
         ensures { result ≡ marked self }
     {
-        match self {
-            Mark::Struck => false,
-            Mark::Standing => true,
-        }
+        self == Mark::Standing
     }
+}
 
-    pub(crate) fn is(self, other: Mark) -> bool
-        ensures { result ≡ same_mark self other }
-    {
-        match (self, other) {
-            (Mark::Struck, Mark::Struck) => true,
-            (Mark::Struck, Mark::Standing) => false,
-            (Mark::Standing, Mark::Struck) => false,
-            (Mark::Standing, Mark::Standing) => true,
+impl From<Mark> for u8 {
+    ghost from_gives = { λ mark number. number ≡ mark_number mark };
+
+    fn from(mark: Mark) -> u8 {
+        mark as u8
+    }
+}
+
+impl TryFrom<u8> for Mark {
+    type Error = UnknownMark;
+
+    ghost try_from_gives = { ReadsMark };
+
+    fn try_from(number: u8) -> Result<Mark, UnknownMark> {
+        match number {
+            0 => Ok(Mark::Struck),
+            1 => Ok(Mark::Standing),
+            _ => Err(UnknownMark),
         }
     }
 }

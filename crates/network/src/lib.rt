@@ -7,7 +7,7 @@ mod networks;
 mod refusals;
 mod scales;
 
-pub use lanes::{Lane, Mark};
+pub use lanes::{Lane, Mark, UnknownMark};
 pub use networks::{LaneRoom, Network};
 pub use refusals::Refusal;
 pub use scales::{Scale, limit_at};

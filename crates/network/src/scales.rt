@@ -50,12 +50,9 @@ const ADMITTED: [Row; 8] = [
 fn find_limit(rows: &[Row], scale: u16) -> Option<u8>
     ensures { result ≡ limit_in rows.now scale }
 {
-    for row in rows {
-        if row.scale == scale {
-            return Some(row.limit);
-        }
-    }
-    None
+    rows.iter()
+        .find(|row| row.scale == scale)
+        .map(|row| row.limit)
 }
 
 // The greatest number of lanes in a set at an admitted scale.

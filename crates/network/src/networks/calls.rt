@@ -41,7 +41,7 @@ impl Network {
         let scale = Scale::admit(parts, most)?;
         let mut network = Network::without_lanes(room, scale, depots)?;
         for lane in lanes {
-            network.add(*lane)?;
+            network.offer(*lane)?;
         }
         Ok(network)
     }
@@ -61,7 +61,7 @@ impl Network {
     }
 
     // One lane more, under the next number.
-    fn add(&mut self, lane: Lane) -> Result<(), Refusal>
+    pub fn offer(&mut self, lane: Lane) -> Result<(), Refusal>
         ensures { Added self.old lane result self.new }
     {
         lane.check(self.scale, self.depots)?;
@@ -70,13 +70,6 @@ impl Network {
         }
         self.lanes.push_reserved(lane);
         Ok(())
-    }
-
-    // One lane more, for a sheet.
-    pub fn offer(&mut self, lane: Lane) -> Result<(), Refusal>
-        ensures { Added self.old lane result self.new }
-    {
-        self.add(lane)
     }
 
     pub fn scale(&self) -> Scale

@@ -23,14 +23,14 @@ loop-lane-init c =
 
 pub loop-lane-preserved : goal.loop-lane-preserved
 loop-lane-preserved c =
-    sofar_more _ _ _ _ _ _ c.loop-lane.invariant c.loop-lane-test.true _ c.in_ok-add.ensures
+    sofar_more _ _ _ _ _ _ c.loop-lane.invariant c.loop-lane-test.true _ c.in_ok-offer.ensures
 
-pub returns-in_err-add : goal.returns-in_err-add
-returns-in_err-add c =
-    told_left _ _ _ _ c.from_residual-in_err-add.ensures.1
+pub returns-in_err-offer : goal.returns-in_err-offer
+returns-in_err-offer c =
+    told_left _ _ _ _ c.from_residual-in_err-offer.ensures.1
     (first_passed _ _ c.in_ok-scale.ensures.0
     ∙ first_passed _ _ c.in_ok-network.ensures.0
-    ∙ sofar_stopped _ _ _ _ _ _ c.loop-lane.invariant c.loop-lane-test.true _ c.in_err-add.ensures.answer)
+    ∙ sofar_stopped _ _ _ _ _ _ c.loop-lane.invariant c.loop-lane-test.true _ c.in_err-offer.ensures.answer)
 
 pub returns : goal.returns
 returns c =

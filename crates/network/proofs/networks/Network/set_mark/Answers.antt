@@ -1,11 +1,9 @@
-use Rattle.std.proofs.Common.{◌<◌, length, vec_items, arith}
-use Rattle.network.proofs.Changes.{mark_sound, number_given}
-use Rattle.network.proofs.Offers.{passed}
+use Rattle.std.proofs.Common.{◌<◌, length, vec_items, refl, arith}
+use Rattle.network.proofs.Changes.{mark_sound}
 use Rattle.network.proofs.networks.Network.set_mark.Goals as goal
 
-pub invariant_of-self : goal.invariant_of-self
-invariant_of-self c =
+pub invariant_of-self-2-clause-fit : goal.invariant_of-self-2-clause-fit
+invariant_of-self-2-clause-fit c =
     let self = c.args.self.now in
-    let within : c.from-i.result < length (vec_items self.lanes) = omega (arith, number_given (vec_items self.lanes) c.args.number (passed _ tt tt c.in_ok-check_number.ensures), c.from-i.ensures) in
-    let fit = mark_sound self.scale.parts self.depots (vec_items self.lanes) c.from-i.result within self.fit c.index-lane.result.now c.index-lane.ensures _ in
-    record { two = self.two; ten = self.ten; few = self.few; roomy = self.roomy; fit = fit }
+    let within : c.from.result < length (vec_items self.lanes) = omega (arith, c.in-Some.ensures.variant.0 refl, self.lanes.ok.0) in
+    mark_sound self.scale.parts self.depots (vec_items self.lanes) c.from.result within self.fit c.in-Some.lane.now c.in-Some.ensures.value c.args.mark

@@ -1,7 +1,7 @@
 use Rattle.std.proofs.Common.{◌<◌, ◌≤◌, length, vec_items, vec_len, vec_capacity, refl, ap, ◌∙◌, arith}
 use Rattle.network.specs.Lanes.{all_sound, lane_refusal, most_lanes}
 use Rattle.network.proofs.Offers.{passed, refused, left_with, unfit_lane, no_room, fit_lane, sound_push, added_nothing, added_one}
-use Rattle.network.proofs.networks.Network.add.Goals as goal
+use Rattle.network.proofs.networks.Network.offer.Goals as goal
 
 pub returns-in_err-check : goal.returns-in_err-check
 returns-in_err-check c =
