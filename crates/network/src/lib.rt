@@ -8,6 +8,6 @@ mod refusals;
 mod scales;
 
 pub use lanes::{Lane, Mark, UnknownMark};
-pub use networks::{LaneRoom, Network};
+pub use networks::{LaneRoom, MOST_LANES, Network};
 pub use refusals::Refusal;
 pub use scales::{Scale, limit_at};

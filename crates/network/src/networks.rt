@@ -1,5 +1,5 @@
 // A network that has been checked: its scale, its depots and its lanes.
-ghost use Rattle.std.specs.Prelude.{◌≡◌, ◌≤◌, true, [], vec_len, vec_capacity};
+ghost use Rattle.std.specs.Prelude.{◌≡◌, ◌≤◌, true, vec_len, vec_capacity};
 ghost use Rattle.network.specs.Lanes.{all_sound, most_lanes};
 
 mod calls;
@@ -8,14 +8,13 @@ mod questions;
 
 use crate::lanes::Lane;
 use crate::scales::Scale;
+use rooms::Room;
 
-// The memory of a network's lanes, reserved before there is one.
-#[derive(Drop)]
-pub struct LaneRoom {
-    lanes: Vec<Lane>,
-    ghost empty: { lanes.items ≡ [] },
-    ghost roomy: { most_lanes ≤ vec_capacity lanes },
-}
+// The most lanes of a network.
+pub const MOST_LANES: usize = 20;
+
+// The memory of a network's lanes.
+pub type LaneRoom = Room<Lane, MOST_LANES>;
 
 // What every routine over a network needs is a fact of its type.
 #[derive(Drop)]

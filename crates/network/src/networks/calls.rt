@@ -1,29 +1,15 @@
 // The way in for a network, and what it tells of itself.
-ghost use Rattle.std.specs.Prelude.{◌≡◌, ◌≤◌, [], IfOk, vec_capacity};
+ghost use Rattle.std.specs.Prelude.{◌≡◌, []};
 ghost use Rattle.network.specs.Answers.{Told};
-ghost use Rattle.network.specs.Lanes.{depots_refusal, most_lanes};
+ghost use Rattle.network.specs.Lanes.{depots_refusal};
 ghost use Rattle.network.specs.Networks.{Added, Made, lanes_of, network_refusal};
 
 use crate::lanes::Lane;
-use crate::networks::{LaneRoom, Network};
+use crate::networks::{LaneRoom, MOST_LANES, Network};
 use crate::refusals::Refusal;
 use crate::scales::Scale;
-use std::alloc::{AllocError, Global};
-
-impl LaneRoom {
-    // The only call on a network that can lack memory.
-    pub fn reserve(heap: Global) -> Result<LaneRoom, AllocError>
-        ensures { IfOk result (λ room. (room.lanes.items ≡ []) × (most_lanes ≤ vec_capacity room.lanes)) }
-    {
-        Ok(LaneRoom {
-            lanes: Vec::with_capacity(heap, Network::MOST_LANES)?,
-        })
-    }
-}
 
 impl Network {
-    pub const MOST_LANES: usize = 20;
-
     pub const FEWEST_DEPOTS: u8 = 2;
 
     pub const MOST_DEPOTS: u8 = 10;
@@ -52,11 +38,10 @@ impl Network {
         if depots < Self::FEWEST_DEPOTS || depots > Self::MOST_DEPOTS {
             return Err(Refusal::DepotsOutOfRange);
         }
-        let LaneRoom { lanes } = room;
         Ok(Network {
             scale,
             depots,
-            lanes,
+            lanes: room.into_items(),
         })
     }
 
@@ -65,7 +50,7 @@ impl Network {
         ensures { Added self.old lane result self.new }
     {
         lane.check(self.scale, self.depots)?;
-        if self.lanes.len() >= Self::MOST_LANES {
+        if self.lanes.len() >= MOST_LANES {
             return Err(Refusal::LanesFull);
         }
         self.lanes.push_reserved(lane);

@@ -1,16 +1,9 @@
-use Rattle.std.proofs.Common.{◌≤◌, length, vec_len, refl, ap, arith}
-use Rattle.network.specs.Lanes.{all_sound, most_lanes}
-use Rattle.network.proofs.Offers.{depots_fit}
+use Rattle.std.proofs.Common.{length, ap, arith}
+use Rattle.network.specs.Lanes.{all_sound}
 use Rattle.network.proofs.networks.Network.without_lanes.Goals as goal
 
-pub invariant_of-result : goal.invariant_of-result
-invariant_of-result c =
-    let room = c.args.room in
-    let none : vec_len room.lanes ≤ most_lanes = omega (arith, room.lanes.ok.0, ap length room.empty) in
-    record { two = c.if-depots-lt-FEWEST_DEPOTS.false; ten = c.if-depots-gt-MOST_DEPOTS.false; few = none; roomy = room.roomy; fit = ap (all_sound c.args.scale.parts c.args.depots) room.empty }
+pub invariant_of-result-clause-few : goal.invariant_of-result-clause-few
+invariant_of-result-clause-few c = omega (arith, c.into_items.result.ok.0, ap length c.into_items.ensures.empty)
 
-pub returns : goal.returns
-returns c = (
-  depots_fit c.args.depots c.if-depots-lt-FEWEST_DEPOTS.false c.if-depots-gt-MOST_DEPOTS.false,
-  (refl, refl, c.args.room.empty),
-)
+pub invariant_of-result-clause-fit : goal.invariant_of-result-clause-fit
+invariant_of-result-clause-fit c = ap (all_sound c.args.scale.parts c.args.depots) c.into_items.ensures.empty
