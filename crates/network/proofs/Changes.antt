@@ -1,22 +1,15 @@
 -- One lane of a sound list is replaced by another sound one.
-use Rattle.std.proofs.Common.{◌≡◌, ℕ, zero, suc, ◌<◌, Bool, true, false, cond, not, ltb, List, [], ◌∷◌, length, get_or, set, is_some, Some, None, Option, refl, ap, ◌∙◌, arith}
-use Rattle.std.proofs.lemmas.Bool.{and_from, and_parts, ltb-true}
-use Rattle.network.specs.Changes.{number_refusal, with_mark, with_price}
+use Rattle.std.proofs.Common.{◌≡◌, ℕ, zero, suc, ◌<◌, Bool, true, false, cond, not, List, [], ◌∷◌, length, get_or, set, is_some, Some, None, Option, refl, ap, ◌∙◌, arith}
+use Rattle.std.proofs.lemmas.Bool.{and_from, and_parts}
+use Rattle.network.specs.Changes.{with_mark, with_price}
 use Rattle.network.specs.Lanes.{all_sound, ends_unfit, price_refusal, sound}
 use Rattle.network.specs.declared.lanes.Lane.{Lane}
 use Rattle.network.specs.declared.lanes.Mark.{Mark}
 use Rattle.network.specs.declared.refusals.Refusal.{Refusal}
-use Rattle.network.specs.declared.refusals.Refusal.TheVariants.{EndsUnfit, NumberNotGiven}
+use Rattle.network.specs.declared.refusals.Refusal.TheVariants.{EndsUnfit}
 
 some_is_not_none : (e : Refusal) → ◌≡◌ {A = Option Refusal} (Some e) None → ⊥
 some_is_not_none e is = let z : ◌≡◌ {A = ℕ} 0 1 = cc in omega arith
-
-pub number_given : (ls : List Lane) (i : ℕ) → number_refusal ls i ≡ None → i < length ls
-number_given ls i passes = ltb-true i (length ls) (by_case (ltb i (length ls)) passes)
-  where
-    by_case : (given : Bool) → cond given None (Some NumberNotGiven) ≡ None → given ≡ true
-    by_case true is = refl
-    by_case false is = absurd (some_is_not_none NumberNotGiven is)
 
 module _ (S depots : ℕ) where
   sound_at : (ls : List Lane) (i : ℕ) (d : Lane) → i < length ls → all_sound S depots ls ≡ true → sound S depots (get_or ls i d) ≡ true

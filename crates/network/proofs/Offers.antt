@@ -1,16 +1,15 @@
 -- The check of a lane that is offered to a network, of a whole list of lanes, and what the verdicts say of the answers.
-use Rattle.std.proofs.Common.{◌≡◌, ℕ, suc, ◌+◌, ◌<◌, ◌≤◌, true, cond, not, leb, List, [], ◌∷◌, ◌++◌, length, get_or, take, drop, is_some, IsErrAnd, Some, None, Ok, Err, Option, Result, sym, refl, ap, ◌∙◌, add-one, arith}
+use Rattle.std.proofs.Common.{◌≡◌, ℕ, suc, ◌+◌, ◌<◌, true, not, List, [], ◌∷◌, ◌++◌, length, get_or, take, drop, is_some, IsErrAnd, Some, None, Ok, Err, Option, Result, sym, refl, ap, ◌∙◌, add-one, arith}
 use mathlib.Core.Path.{subst⁻¹}
-use Rattle.std.proofs.lemmas.Bool.{and_from, and_parts, cond-true, cond-false, le-leb, le-ltb, lt-leb, or_from}
-use Rattle.std.proofs.lemmas.List.{at_drop_more, drop_all, length-take-le, take_all, take_more}
+use Rattle.std.proofs.lemmas.Bool.{and_from, and_parts, cond-false}
+use Rattle.std.proofs.lemmas.List.{at_drop_more, length-take-le, take_more}
 use Rattle.std.proofs.lemmas.Result.{err_from_is_err_and}
 use Rattle.network.specs.Answers.{Told, first_of, told}
-use Rattle.network.specs.Lanes.{all_sound, depots_refusal, lane_refusal, most_lanes, no_lane, offer_refusal, offers_refusal, sound}
-use Rattle.network.specs.Networks.{Added, Made, add_refusal, lanes_of, parts_of, most_of, depots_of}
+use Rattle.network.specs.Lanes.{all_sound, lane_refusal, no_lane, offer_refusal, offers_refusal, sound}
+use Rattle.network.specs.Networks.{Added, add_refusal, lanes_of, parts_of, most_of, depots_of}
 use Rattle.network.specs.declared.lanes.Lane.{Lane}
 use Rattle.network.specs.declared.networks.Network.{Network}
 use Rattle.network.specs.declared.refusals.Refusal.{Refusal}
-use Rattle.network.specs.declared.refusals.Refusal.TheVariants.{LanesFull}
 
 -- ---- answers and verdicts
 
@@ -36,49 +35,13 @@ left_with r e left = let p = err_from_is_err_and r left in p.1 ∙ ap Err p.2
 pub told_left : {X : Type 0} (verdict : Option Refusal) (r : Result X Refusal) (P : X → Type 0) (e : Refusal) → IsErrAnd r (λ y. y ≡ e) → verdict ≡ Some e → Told verdict r P
 told_left verdict r P e left h = subst⁻¹ (λ s. Told verdict s P) (left_with r e left) h
 
--- ---- one lane
-
-module _ (S depots count : ℕ) (l : Lane) where
-  pub unfit_lane : (e : Refusal) → lane_refusal S depots l ≡ Some e → offer_refusal S depots count l ≡ Some e
-  unfit_lane e h = ap (λ v. first_of v (cond (leb most_lanes count) (Some LanesFull) None)) h
-
-  pub no_room : lane_refusal S depots l ≡ None → most_lanes ≤ count → offer_refusal S depots count l ≡ Some LanesFull
-  no_room h full =
-      ap (λ v. first_of v (cond (leb most_lanes count) (Some LanesFull) None)) h ∙ cond-true (leb most_lanes count) _ _ (le-leb most_lanes count full)
-
-  pub fit_lane : lane_refusal S depots l ≡ None → count < most_lanes → offer_refusal S depots count l ≡ None
-  fit_lane h room =
-      ap (λ v. first_of v (cond (leb most_lanes count) (Some LanesFull) None)) h ∙ cond-false (leb most_lanes count) _ _ (lt-leb most_lanes count room)
+-- ---- lanes
 
 pub sound_push : (S depots : ℕ) (ls : List Lane) (l : Lane) → all_sound S depots ls ≡ true → lane_refusal S depots l ≡ None → all_sound S depots (ls ++ (l ∷ [])) ≡ true
 sound_push S depots [] l _ h = and_from _ true (ap (λ v. not (is_some v)) h) refl
 sound_push S depots (k ∷ ls) l fit h =
     let parts = and_parts (sound S depots k) (all_sound S depots ls) fit in
     and_from _ _ parts.0 (sound_push S depots ls l parts.1 h)
-
-pub depots_fit : (depots : ℕ) → 2 ≤ depots → depots ≤ 10 → depots_refusal depots ≡ None
-depots_fit depots two ten = cond-false _ _ _ (or_from _ _ (le-ltb depots 2 two) (le-ltb 10 depots ten))
-
--- ---- the network after an offer, by how the call went
-
-module _ (network : Network) (l : Lane) where
-  pub added_nothing : (r : Result (Unit {0}) Refusal) (e : Refusal) → r ≡ Err e → add_refusal network l ≡ Some e → Added network l r network
-  added_nothing r e answer verdict =
-      record {
-        answer = answer ∙ sym (ap (λ v. told v tt) verdict);
-        scale = refl;
-        depots = refl;
-        lanes = sym (cond-true _ _ _ (ap is_some verdict));
-      }
-
-  pub added_one : (after : Network) → add_refusal network l ≡ None → after.scale ≡ network.scale → after.depots ≡ network.depots → lanes_of after ≡ lanes_of network ++ (l ∷ []) → Added network l (Ok tt) after
-  added_one after verdict scale depots lanes =
-      record {
-        answer = sym (ap (λ v. told v tt) verdict);
-        scale = scale;
-        depots = depots;
-        lanes = lanes ∙ sym (cond-false _ _ _ (ap is_some verdict));
-      }
 
 -- ---- a list of lanes, offered in their order
 
@@ -93,16 +56,7 @@ pub record Sofar (S K n : ℕ) (ls : List Lane) (i : ℕ) (network : Network) : 
 pub first_passed : (v later : Option Refusal) → v ≡ None → first_of v later ≡ later
 first_passed v later h = ap (λ w. first_of w later) h
 
-pub sofar_none : (S K n : ℕ) (ls : List Lane) (network : Network) → parts_of network ≡ S → most_of network ≡ K → depots_of network ≡ n → lanes_of network ≡ [] → Sofar S K n ls 0 network
-sofar_none S K n ls network scale most depots lanes = record { scale = scale; most = most; depots = depots; lanes = lanes; rest = refl }
-
 module _ (S K n : ℕ) (ls : List Lane) (i : ℕ) (network : Network) (so : Sofar S K n ls i network) where
-  pub sofar_all : length ls ≤ i → (offers_refusal S n 0 ls ≡ None) × Made network S K n ls
-  sofar_all past = (
-    sym so.rest ∙ ap (offers_refusal S n i) (drop_all i ls past),
-    record { scale = so.scale; most = so.most; depots = so.depots; lanes = so.lanes ∙ take_all i ls past },
-  )
-
   module _ (within : i < length ls) where
     here : add_refusal network (get_or ls i no_lane) ≡ offer_refusal S n i (get_or ls i no_lane)
     here =

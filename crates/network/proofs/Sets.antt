@@ -1,9 +1,9 @@
 -- The lanes that a set names: how many, in which order, and what is known of each; and when a set is refused.
-use Rattle.std.proofs.Common.{◌≡◌, ℕ, zero, suc, ◌+◌, ◌*◌, ◌/◌, ◌%◌, ◌^◌, ◌<◌, ◌≤◌, Bool, true, false, cond, eqb, ltb, leb, List, [], ◌∷◌, ◌++◌, length, get_or, take, Some, None, Option, sym, refl, ap, ◌∙◌, subst, ap₂, ⊎_elim, add-zero, mod-lt, pow-suc, div-one, one-add, arith, lit<, pow_pos, pow_mono}
+use Rattle.std.proofs.Common.{◌≡◌, ℕ, zero, suc, ◌+◌, ◌*◌, ◌/◌, ◌%◌, ◌^◌, ◌<◌, ◌≤◌, Bool, true, false, cond, eqb, ltb, leb, List, [], ◌∷◌, ◌++◌, length, get_or, take, Some, None, Option, sym, refl, ap, ◌∙◌, subst, ap₂, add-zero, mod-lt, pow-suc, div-one, one-add, arith, lit<, pow_pos, pow_mono}
 use lib.Count.{ones, ones_step, ones-le}
-use Rattle.std.proofs.lemmas.Nat.{div_below, one_shl, shr_split, shr-shr}
+use Rattle.std.proofs.lemmas.Nat.{one_shl, shr-shr}
 use Rattle.std.proofs.lemmas.List.{length-take-le, take_more}
-use Rattle.std.proofs.lemmas.Bool.{and_from, and_parts, cond_both, cond-true, cond-false, eq-eqb, ne_eqb, lt-ltb, le-ltb, leb-true, ltb-true, cases_lt}
+use Rattle.std.proofs.lemmas.Bool.{and_from, and_parts, cond_both, cond-true, cond-false, eq-eqb, ne_eqb, lt-ltb, leb-true, ltb-true}
 use Rattle.std.proofs.lemmas.Bool.Decides.{nat_tests}
 use Rattle.network.proofs.Masks.{half_below}
 use Rattle.network.specs.Answers.{first_of}
@@ -14,22 +14,6 @@ use Rattle.network.specs.declared.refusals.Refusal.{Refusal}
 use Rattle.network.specs.declared.refusals.Refusal.TheVariants.{LaneNotGiven, TooManyLanesNamed}
 
 -- ---- refusals
-
-below_power : (s k : ℕ) → s / 2 ^ k ≡ 0 → s < 2 ^ k
-below_power s k h = omega (arith, shr_split s k, ap (λ (q : ℕ). q * 2 ^ k) h, mod-lt s (pow_pos k))
-
-pub given_none : (ls : List Lane) (s k : ℕ) → k ≡ length ls → s / 2 ^ k ≡ 0 → given_refusal ls s ≡ None
-given_none ls s k e h = cond-true _ _ _ (lt-ltb s (2 ^ length ls) (subst (λ (n : ℕ). s < 2 ^ n) e (below_power s k h)))
-
-pub given_some : (ls : List Lane) (s k : ℕ) → k ≡ length ls → (s / 2 ^ k ≡ 0 → ⊥) → given_refusal ls s ≡ Some LaneNotGiven
-given_some ls s k e h =
-    cond-false _ _ _ (le-ltb s (2 ^ length ls) (⊎_elim (λ low. absurd (h (none low))) (λ high. high) (cases_lt s (2 ^ length ls))))
-  where
-    none : s < 2 ^ length ls → s / 2 ^ k ≡ 0
-    none low =
-        let below : s < 2 ^ k = subst (λ (n : ℕ). s < 2 ^ n) (sym e) low in
-        let quotient : s / 2 ^ k < 1 = div_below s (2 ^ k) 1 (pow_pos k) (omega arith) in
-        omega arith
 
 -- ---- the lanes named
 

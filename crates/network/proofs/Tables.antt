@@ -1,10 +1,10 @@
 -- The rule of all rows of a table of scales, by one test that the checker computes.
-use Rattle.std.proofs.Common.{◌≡◌, ℕ, zero, suc, ◌+◌, ◌^◌, ◌<◌, ◌≤◌, Bool, true, ◌&&◌, eqb, ltb, leb, List, [], ◌∷◌, IfSome, Some, refl, ap, ◌∙◌, subst, suc-le-suc, zero-le, le_trans, not-suc-le-zero, pow-suc, mul-zero, add-one}
+use Rattle.std.proofs.Common.{◌≡◌, ℕ, zero, suc, ◌+◌, ◌^◌, ◌<◌, ◌≤◌, Bool, true, ◌&&◌, eqb, ltb, leb, List, [], ◌∷◌, IfSome, Some, ap, ◌∙◌, subst, suc-le-suc, zero-le, le_trans, not-suc-le-zero, pow-suc, mul-zero, add-one}
 use native.Mathlib.Nat.{pow-le-pow_right}
 use Rattle.std.proofs.lemmas.Bool.{and_parts, cond_both, eqb-true, leb-true, ltb-true}
 use Rattle.std.specs.List.{find}
 use Rattle.std.specs.Option.{option_map}
-use Rattle.network.specs.Scales.{Greatest, full_limit, limit_in, admitted_rows}
+use Rattle.network.specs.Scales.{Greatest, full_limit, limit_in}
 use Rattle.network.specs.declared.scales.Row.{Row}
 
 -- the rule as a test
@@ -27,10 +27,6 @@ rule_of (r ∷ rows) S passed =
     let parts = and_parts (greatest_test r) (every_row rows) passed in
     cond_both (eqb r.scale S) (Some r) (find (λ row. eqb row.scale S) rows) (λ found. IfSome (option_map (λ row. row.limit) found) (λ limit. Greatest S limit))
     (λ same. greatest_from r S parts.0 (eqb-true _ S same)) (λ _. rule_of rows S parts.1)
-
--- the built-in table passes the test, so each of its rows meets the rule
-pub admitted_rule : (S : ℕ) → IfSome (limit_in admitted_rows S) (λ limit. Greatest S limit)
-admitted_rule S = rule_of admitted_rows S refl
 
 -- what the rule gives of a scale, and of a number of lanes up to the limit
 pub positive_scale : (S K : ℕ) → Greatest S K → 1 ≤ S

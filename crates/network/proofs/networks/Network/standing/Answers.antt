@@ -1,8 +1,6 @@
-use Rattle.std.proofs.Common.{ℕ, ◌+◌, ◌<◌, ◌≤◌, length, sym, ap, ◌∙◌, subst, arith}
+use Rattle.std.proofs.Common.{ℕ, ◌+◌, ◌<◌, length, sym, ap, ◌∙◌, subst, arith}
 use Rattle.std.proofs.lemmas.Nat.{one_shl}
-use Rattle.std.proofs.lemmas.List.{take_all}
 use Rattle.network.specs.Networks.{lanes_of}
-use Rattle.network.specs.Sets.{standing_set}
 use Rattle.network.proofs.Sets.{StandingSofar, standing_fits, standing_one, standing_none}
 use Rattle.network.proofs.networks.Network.standing.Goals as goal
 use Rattle.network.proofs.networks.Network.standing.Goals.{then-stands, else-stands}
@@ -28,9 +26,3 @@ loop-i-preserved c =
           subst (StandingSofar (lanes_of network) _) (sym w.set-is)
           (standing_none _ (lanes_of network) same c.loop-i.i c.loop-i.set c.loop-i-test.true c.loop-i.invariant (sym w.if-stands.ensures))
     ]
-
-pub returns : goal.returns
-returns c =
-    let network = c.args.self.now in
-    let past : length (lanes_of network) ≤ c.loop-i.i = omega (arith, ap length c.deref-lane-items.ensures.value) in
-    c.loop-i.invariant ∙ ap standing_set (take_all _ (lanes_of network) past)

@@ -1,7 +1,5 @@
-use Rattle.std.proofs.Common.{◌<◌, ◌≤◌, length, sym, ap, ◌∙◌, subst, arith}
-use Rattle.std.proofs.lemmas.List.{take_all}
+use Rattle.std.proofs.Common.{◌<◌, sym, subst, arith}
 use Rattle.network.specs.Networks.{lanes_of}
-use Rattle.network.specs.Sets.{set_cost}
 use Rattle.network.proofs.Sets.{CostSofar, cost_named, cost_unnamed}
 use Rattle.network.proofs.networks.Network.sum_costs.Goals as goal
 use Rattle.network.proofs.networks.Network.sum_costs.Goals.{then-set-i-eq1, else-set-i-eq1}
@@ -24,9 +22,3 @@ loop-i-preserved c =
           subst (CostSofar c.args.set (lanes_of network) _) (sym w.cost-is)
           (cost_unnamed network.scale.parts network.depots c.args.set _ (lanes_of network) c.deref-lane-items.ensures.value network.fit c.loop-i.i c.loop-i.cost c.loop-i-test.true c.loop-i.invariant w.if-set-i-eq1.false)
     ]
-
-pub returns : goal.returns
-returns c =
-    let network = c.args.self.now in
-    let past : length (lanes_of network) ≤ c.loop-i.i = omega (arith, ap length c.deref-lane-items.ensures.value) in
-    c.loop-i.invariant.0 ∙ ap (set_cost c.args.set) (take_all _ (lanes_of network) past)
