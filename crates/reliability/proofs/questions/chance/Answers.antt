@@ -1,10 +1,11 @@
 use Rattle.std.proofs.Common.{◌≡◌, ℕ, ◌-◌, ◌*◌, ◌^◌, None, Ok, sym, ap, ◌∙◌, subst, ap₂, arith}
 use lib.Count.{ones}
 use Rattle.network.specs.Connected.{connects}
-use Rattle.network.specs.Networks.{depots_of, most_of, parts_of}
+use Rattle.network.specs.Networks.{depots_of, lanes_of, most_of, parts_of}
+use Rattle.network.specs.Sets.{given_refusal}
 use Rattle.network.proofs.Offers.{passed, told_value}
 use Rattle.semiring.specs.Shares.{share_ops}
-use Rattle.reliability.specs.Questions.{Chance, question_refusal, set_total, total_refusal}
+use Rattle.reliability.specs.Questions.{Chance, question_refusal, set_total}
 use Rattle.reliability.specs.Reliability.{natural_ops}
 use Rattle.reliability.proofs.Chances.{chance_below, chance_told, power_below, shares_tell}
 use Rattle.reliability.proofs.questions.chance.Goals as goal
@@ -14,7 +15,7 @@ fine : (c : After-from-2) → question_refusal c.args.network.now c.args.set ≡
 fine c = passed _ tt tt c.in_ok-check_set.ensures
 
 share_is : (c : After-from-2) → c.in_ok-share.share ≡ set_total share_ops (connects (depots_of c.args.network.now)) c.args.network.now c.args.set
-share_is c = told_value (total_refusal c.args.network.now c.args.set 21) _ _ c.in_ok-share.ensures.totalled.answer
+share_is c = told_value (given_refusal (lanes_of c.args.network.now) c.args.set) _ _ c.in_ok-share.ensures
 
 -- the power by its scale
 power_is : (c : After-from-2) → c.from-2.result ^ (c.from.result - ones c.args.set) ≡ parts_of c.args.network.now ^ (most_of c.args.network.now - ones c.args.set)
