@@ -1,15 +1,10 @@
 // Labels of the depots: depots of one part have one label.
-ghost use Rattle.std.specs.Prelude.{◌≡◌, ◌<◌, map};
-ghost use Rattle.network.specs.Connected.{label_at, relabelled};
+ghost use Rattle.std.specs.Prelude.{◌≡◌, ◌<◌};
+ghost use Rattle.network.specs.Connected.{label_at, meets, merged, own_labels, relabelled};
 
-pub(crate) const DEPOTS: usize = 10;
+use network::Lane;
 
-pub(crate) fn label_of(labels: &[u8; DEPOTS], depot: u8) -> u8
-    requires { depot < 10 }
-    ensures { result ≡ label_at labels.now depot }
-{
-    labels[usize::from(depot)]
-}
+const DEPOTS: usize = 10;
 
 fn replace(label: u8, from: u8, to: u8) -> u8
     ensures { result ≡ relabelled to from label }
@@ -17,13 +12,47 @@ fn replace(label: u8, from: u8, to: u8) -> u8
     if label == from { to } else { label }
 }
 
-// The part with the label `from` gets the label `to`.
-pub(crate) fn relabel(labels: &[u8; DEPOTS], from: u8, to: u8) -> [u8; DEPOTS]
-    ensures { result ≡ map (relabelled to from) labels.now }
-{
-    let mut merged = *labels;
-    for k in 0..DEPOTS {
-        merged[k] = replace(merged[k], from, to);
+#[derive(Clone, Copy)]
+pub(crate) struct Labels {
+    each: [u8; DEPOTS],
+}
+
+impl Labels {
+    // Each depot is a part of its own.
+    pub(crate) fn own() -> Labels
+        ensures { result.each ≡ own_labels }
+    {
+        Labels {
+            each: [0, 1, 2, 3, 4, 5, 6, 7, 8, 9],
+        }
     }
-    merged
+
+    fn at(&self, depot: u8) -> u8
+        requires { depot < 10 }
+        ensures { result ≡ label_at self.now.each depot }
+    {
+        self.each[usize::from(depot)]
+    }
+
+    // Whether the lane's ends are of one part.
+    pub(crate) fn meet(&self, lane: &Lane) -> bool
+        requires left { lane.now.left < 10 }
+        requires right { lane.now.right < 10 }
+        ensures { result ≡ meets self.now.each lane.now }
+    {
+        self.at(lane.left) == self.at(lane.right)
+    }
+
+    // The part of the lane's right end gets the label of its left end.
+    pub(crate) fn merge(&self, lane: &Lane) -> Labels
+        requires left { lane.now.left < 10 }
+        requires right { lane.now.right < 10 }
+        ensures { result.each ≡ merged self.now.each lane.now }
+    {
+        let kept = self.at(lane.left);
+        let gone = self.at(lane.right);
+        Labels {
+            each: self.each.map(|label| replace(label, gone, kept)),
+        }
+    }
 }

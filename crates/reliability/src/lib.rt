@@ -5,6 +5,7 @@
 mod chosen;
 mod factoring;
 mod labels;
+mod named;
 mod questions;
 mod totals;
 

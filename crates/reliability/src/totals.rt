@@ -5,7 +5,8 @@ ghost use Rattle.reliability.specs.Questions.{Totalled};
 ghost use Rattle.reliability.specs.Totals.{Tells};
 
 use crate::chosen::{MOST_LANES, choose};
-use crate::factoring::{SCRATCH_PLACES, factor_lanes};
+use crate::factoring::SCRATCH_PLACES;
+use crate::named::Named;
 use network::{Lane, Mark, Network, Refusal};
 use semiring::Semiring;
 
@@ -29,6 +30,10 @@ pub fn total<V: Semiring>(network: &Network, set: u32, scratch: &mut [V]) -> Res
     let mut table = [NO_LANE; MOST_LANES];
     let count = choose(network.lanes(), set, &mut table);
     let all = &table[..];
-    let named = &all[0..count];
-    Ok(factor_lanes(named, network.scale(), network.depots(), scratch))
+    let named = Named {
+        lanes: &all[0..count],
+        scale: network.scale(),
+        depots: network.depots(),
+    };
+    Ok(named.total(scratch))
 }

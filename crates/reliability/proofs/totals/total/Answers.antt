@@ -22,16 +22,15 @@ table_is g c =
     ∙ c.choose-count.ensures.named
     ∙ ap (chosen c.args.set) c.lanes.ensures
 
-pub factor_lanes-requires : goal.factor_lanes-requires
-factor_lanes-requires g c =
+pub invariant_of-named : goal.invariant_of-named
+invariant_of-named g c =
     let network = c.args.network.now in
-    let same = table_is g (goal.at.factor_lanes-requires g c).After-choose-count in
+    let same = table_is g (goal.at.invariant_of-named g c).After-choose-count in
     let all : length c.lanes.result.now ≡ length (lanes_of network) = ap length c.lanes.ensures in
     record {
       two = omega (arith, c.depots.ensures, network.two);
       ends = subst (EndsWithin 10) (sym same) (ends_wider _ network.ten (named network c.args.set) (ends_named network c.args.set));
       few = omega (arith, length-take (c.choose-count.result - 0) c.choose-count.new.table, c.choose-count.ensures.few, network.lanes.ok.0, network.few);
-      long = c.if-scratch-lt-SCRATCH_PLACES.false;
     }
 
 pub returns : goal.returns
@@ -40,10 +39,10 @@ returns g c =
     let o = g.V.Semiring.ops in
     let same = table_is g (goal.at.returns g c).After-choose-count in
     let by = λ (scale : Scale) (n : ℕ) (ls : List Lane). total o scale.parts (connects n) ls in
-    let value = c.factor_lanes.ensures.value ∙ (λ i. by (c.scale.ensures i) (c.depots.ensures i) (same i)) in
+    let value = c.total.ensures.value ∙ (λ i. by (c.scale.ensures i) (c.depots.ensures i) (same i)) in
     record {
       totalled = total_answered network c.args.set o g.met.V.Semiring.laws c.args.scratch.now _ _
-          (passed (given_refusal (lanes_of network) c.args.set) tt tt c.in_ok-check_given.ensures) c.if-scratch-lt-SCRATCH_PLACES.false value c.factor_lanes.ensures.scratch;
+          (passed (given_refusal (lanes_of network) c.args.set) tt tt c.in_ok-check_given.ensures) c.if-scratch-lt-SCRATCH_PLACES.false value c.total.ensures.scratch;
       tells = connects_is_told network.depots network.ten;
     }
 

@@ -1,6 +1,0 @@
-use Rattle.std.proofs.Common.{◌≡◌, ◌≤◌}
-use Rattle.reliability.specs.Tasks.{from_lane}
-use Rattle.reliability.proofs.factoring.join_two.Given as goal
-
-abbrev pub invariant-loop-k : goal.invariant-loop-k
-invariant-loop-k g l = (l.i ≤ l.k) × (l.value ≡ from_lane g.V.Semiring.ops l.task l.k l.labels 2)
