@@ -1,5 +1,6 @@
 -- What the code of a bound tells of a lawful question over a network.
-use Rattle.std.proofs.Common.{◌≡◌, ℕ, ◌+◌, ◌^◌, ◌<◌, ◌≤◌, Bool, true, false, cond, leb, length, Some, None, Ok, Err, sym, refl, ap, ◌∙◌, subst, lt_of_le_of_lt, arith}
+use Rattle.std.proofs.Common.{◌≡◌, ℕ, ◌+◌, ◌^◌, ◌<◌, ◌≤◌, Bool, true, false, cond, leb, length, Some, None, Ok, Err, Result, sym, refl, ap, ◌∙◌, subst, lt_of_le_of_lt, arith}
+use Rattle.std.specs.Result.{result_unwrap_or}
 use lib.Bits.{bit_or, or_disjoint}
 use lib.Count.{ones}
 use Rattle.std.proofs.lemmas.Bool.{cond-false, cond-true, le-leb, lt-ltb}
@@ -38,6 +39,15 @@ not_refused : (b : Bool) (d e : Refusal) → cond b None (Some d) ≡ Some e →
 not_refused true d e h = absurd (let z : ◌≡◌ {A = ℕ} 0 1 = cc in omega arith)
 not_refused false d e h = refl
 
+-- what a lawful question has, and any other has not
+pub has_some : (b : Bool) (x y : ℕ) → Some x ≡ cond b (Some y) None → (b ≡ true) × (x ≡ y)
+has_some true x y h = (refl, cc)
+has_some false x y h = absurd (let z : ◌≡◌ {A = ℕ} 0 1 = cc in omega arith)
+
+pub has_none : (b : Bool) (y : ℕ) → None ≡ cond b (Some y) None → b ≡ false
+has_none true y h = absurd (let z : ◌≡◌ {A = ℕ} 0 1 = cc in omega arith)
+has_none false y h = refl
+
 module _ (network : Network) (picked undecided : ℕ) (yes_lawful : lawful (asked_of_network network picked undecided) ≡ true) where
   abbrev a : Asked
   a = asked_of_network network picked undecided
@@ -60,7 +70,7 @@ module _ (network : Network) (picked undecided : ℕ) (yes_lawful : lawful (aske
   count : length (candidates a) ≡ ones (picked + undecided)
   count = chosen_count (picked + undecided) (lanes_of network) below
 
-  pub whole_ok : (parts : ℕ) → Chance network (picked + undecided) (Ok parts) → parts ≡ whole_tells a
+  whole_ok : (parts : ℕ) → Chance network (picked + undecided) (Ok parts) → parts ≡ whole_tells a
   whole_ok parts told =
       let fine = passed (question_refusal network (picked + undecided)) _ _ told.answer in
       let small = (set_fine (most_of network) (lanes_of network) (picked + undecided) fine).2 in
@@ -68,9 +78,13 @@ module _ (network : Network) (picked undecided : ℕ) (yes_lawful : lawful (aske
       ∙ sym (cond-true (leb (length (candidates a)) (most_of network)) _ _ (le-leb _ (most_of network) (subst (λ (n : ℕ). n ≤ most_of network) (sym count) small)))
       ∙ sym (cond-true (lawful a) _ _ yes_lawful)
 
-  pub whole_err : (e : Refusal) → Chance network (picked + undecided) (Err e) → full a ≡ whole_tells a
+  whole_err : (e : Refusal) → Chance network (picked + undecided) (Err e) → full a ≡ whole_tells a
   whole_err e told =
       let verdict = refused (question_refusal network (picked + undecided)) e _ told.answer in
       let size = sym (ap (λ v. first_of v (size_refusal (most_of network) (picked + undecided))) given) ∙ verdict in
       let large = ap (λ (n : ℕ). leb n (most_of network)) count ∙ not_refused (leb (ones (picked + undecided)) (most_of network)) _ e size in
       sym (cond-false (leb (length (candidates a)) (most_of network)) _ _ large) ∙ sym (cond-true (lawful a) _ _ yes_lawful)
+
+  pub whole_told : (r : Result ℕ Refusal) → Chance network (picked + undecided) r → result_unwrap_or r (full a) ≡ whole_tells a
+  whole_told (Ok parts) told = whole_ok parts told
+  whole_told (Err e) told = whole_err e told

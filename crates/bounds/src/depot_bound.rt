@@ -1,7 +1,7 @@
 // The full scale less the chance that some depot is cut off.
 ghost use Rattle.std.specs.Prelude.{◌≡◌, ◌<◌};
-ghost use Rattle.network.specs.Networks.{depots_of, lanes_of, most_of, parts_of};
-ghost use Rattle.network.specs.Sets.{chosen};
+ghost use Rattle.network.specs.Networks.{depots_of, most_of, parts_of};
+ghost use Rattle.reliability.specs.Questions.{named};
 ghost use Rattle.bounds.specs.Depots.{depot_number, least_depot, touches};
 ghost use Rattle.bounds.specs.Numbers.{depot_tells};
 ghost use Rattle.bounds.specs.Covers.{depot_means};
@@ -21,7 +21,7 @@ fn has_end(lane: &Lane, depot: u8) -> bool
 
 // What one depot gives, by the set's lanes at it.
 fn number_at(network: &Network, set: u32, depot: u8) -> u64
-    ensures { result ≡ depot_number (parts_of network.now) (most_of network.now) depot (chosen set (lanes_of network.now)) }
+    ensures { result ≡ depot_number (parts_of network.now) (most_of network.now) depot (named network.now set) }
 {
     let parts = u64::from(network.scale().parts());
     let most = u32::from(network.scale().most());
@@ -44,7 +44,7 @@ fn number_at(network: &Network, set: u32, depot: u8) -> u64
 
 // The least of what the depots give.
 fn least_number(network: &Network, set: u32) -> u64
-    ensures { result ≡ least_depot (parts_of network.now) (most_of network.now) (depots_of network.now) (chosen set (lanes_of network.now)) }
+    ensures { result ≡ least_depot (parts_of network.now) (most_of network.now) (depots_of network.now) (named network.now set) }
 {
     let mut least = network.scale().full();
     for depot in 0..network.depots() {
@@ -59,10 +59,9 @@ impl Bound for Depot {
     ghost meaning = { λ bound. depot_means };
 
     fn tell(&self, question: Question) -> u64 {
-        if question.is_lawful() {
-            least_number(question.network, question.picked | question.undecided)
-        } else {
-            question.network.scale().full()
-        }
+        let Some(set) = question.candidates() else {
+            return question.network.scale().full();
+        };
+        least_number(question.network, set)
     }
 }

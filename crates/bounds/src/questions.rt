@@ -1,5 +1,5 @@
 // The question that a bound is asked.
-ghost use Rattle.std.specs.Prelude.{◌≡◌, Decides};
+ghost use Rattle.std.specs.Prelude.{◌≡◌, ◌+◌, cond, Some, None, Decides};
 ghost use Rattle.bounds.specs.Questions.{Lawful, asked_of, lawful};
 
 use network::Network;
@@ -24,5 +24,12 @@ impl Question<'_> {
         let picked_stand = self.picked & standing == self.picked;
         let undecided_stand = self.undecided & standing == self.undecided;
         apart & picked_stand & undecided_stand & (self.picked.count_ones() <= most)
+    }
+
+    // The lanes that are picked or undecided, if the question is lawful.
+    pub(crate) fn candidates(&self) -> Option<u32>
+        ensures { result ≡ cond (lawful (asked_of self.now)) (Some (self.now.picked + self.now.undecided)) None }
+    {
+        self.is_lawful().then_some(self.picked | self.undecided)
     }
 }

@@ -16,13 +16,10 @@ impl Bound for Whole {
 
     fn tell(&self, question: Question) -> u64 {
         let full = question.network.scale().full();
-        if !question.is_lawful() {
+        let Some(set) = question.candidates() else {
             return full;
-        }
-        match chance(question.network, question.picked | question.undecided) {
-            Ok(parts) => parts,
-            // more than K lanes are named, since all of them were given
-            Err(_) => full,
-        }
+        };
+        // refused only where more than K lanes are named, since all of them were given
+        chance(question.network, set).unwrap_or(full)
     }
 }

@@ -1,7 +1,7 @@
 use Rattle.std.proofs.Common.{ℕ, min, sym, ap, ◌∙◌, ap₂, add-one}
 use native.Mathlib.Nat.{min_comm}
-use Rattle.network.specs.Networks.{lanes_of, most_of, parts_of}
-use Rattle.network.specs.Sets.{chosen}
+use Rattle.network.specs.Networks.{most_of, parts_of}
+use Rattle.reliability.specs.Questions.{named}
 use Rattle.bounds.specs.Depots.{least_depot}
 use Rattle.bounds.proofs.depot_bound.least_number.Goals as goal
 
@@ -12,4 +12,4 @@ loop-depot-preserved c =
     c.min-least.ensures
     ∙ min_comm c.loop-depot.least c.number_at.result
     ∙ ap₂ min c.number_at.ensures c.loop-depot.invariant
-    ∙ ap (λ (n : ℕ). least_depot (parts_of network) (most_of network) n (chosen c.args.set (lanes_of network))) (sym (add-one c.loop-depot.depot))
+    ∙ ap (λ (n : ℕ). least_depot (parts_of network) (most_of network) n (named network c.args.set)) (sym (add-one c.loop-depot.depot))

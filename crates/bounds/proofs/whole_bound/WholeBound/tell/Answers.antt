@@ -1,22 +1,15 @@
-use Rattle.std.proofs.Common.{ℕ, Ok, Err, sym, ◌∙◌, subst}
+use Rattle.std.proofs.Common.{ℕ, ◌+◌, ap, ◌∙◌, subst}
+use Rattle.std.specs.Result.{result_unwrap_or}
 use Rattle.reliability.specs.Questions.{Chance}
-use Rattle.bounds.proofs.Told.{full_of, union, whole_err, whole_ok}
+use Rattle.bounds.specs.Questions.{asked_of, lawful}
+use Rattle.bounds.proofs.Told.{full_of, has_some, whole_told}
 use Rattle.bounds.proofs.whole_bound.WholeBound.tell.Goals as goal
 
-pub returns-in-Ok : goal.returns-in-Ok
-returns-in-Ok c =
+pub returns : goal.returns
+returns c =
     let q = c.args.question in
     let network = q.network.now in
-    let yes_lawful = sym c.if-not-is_lawful.ensures.value in
-    whole_ok network q.picked q.undecided yes_lawful c.in-Ok.parts
-    (subst (λ (s : ℕ). Chance network s (Ok c.in-Ok.parts)) (union network q.picked q.undecided yes_lawful) c.in-Ok.ensures)
-
-pub returns-in-Err : goal.returns-in-Err
-returns-in-Err c =
-    let q = c.args.question in
-    let network = q.network.now in
-    let yes_lawful = sym c.if-not-is_lawful.ensures.value in
-    c.full-full.ensures
-    ∙ full_of network q.picked q.undecided c.scale.result c.scale.ensures
-    ∙ whole_err network q.picked q.undecided yes_lawful c.in-Err.field-0
-    (subst (λ (s : ℕ). Chance network s (Err c.in-Err.field-0)) (union network q.picked q.undecided yes_lawful) c.in-Err.ensures)
+    let found = has_some (lawful (asked_of q)) c.in-Some.set (q.picked + q.undecided) c.in-Some.ensures in
+    c.unwrap_or.ensures
+    ∙ ap (λ full. result_unwrap_or c.chance.result full) (c.full-full.ensures ∙ full_of network q.picked q.undecided c.scale.result c.scale.ensures)
+    ∙ whole_told network q.picked q.undecided found.0 c.chance.result (subst (λ (s : ℕ). Chance network s c.chance.result) found.1 c.chance.ensures)
