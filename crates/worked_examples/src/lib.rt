@@ -4,7 +4,7 @@
 
 ghost use Rattle.std.specs.Prelude.{◌≡◌, None};
 ghost use Rattle.network.specs.Connected.{connects};
-ghost use Rattle.network.specs.Networks.{Made, depots_of};
+ghost use Rattle.network.specs.Networks.{Made, depots_of, network_refusal};
 ghost use Rattle.reliability.specs.Questions.{chance_by, question_refusal};
 ghost use Rattle.worked_examples.specs.Examples.{ExamplesHold, expected_answers, most, parts, ring, three_depots};
 
@@ -25,6 +25,17 @@ pub const EXAMPLES: usize = 7;
 const PARTS: u16 = 10;
 
 const MOST: u8 = 4;
+
+// The network of these lanes, at the scale of all examples.
+fn build(room: LaneRoom, depots: u8, lanes: &[Lane]) -> Network
+    requires { network_refusal parts most depots lanes.now ≡ None }
+    ensures { Made result parts most depots lanes.now }
+{
+    let Ok(network) = Network::new(room, PARTS, MOST, depots, lanes) else {
+        unreachable()
+    };
+    network
+}
 
 // Three depots, where the first two lanes have the mark.
 pub fn three_depots(room: LaneRoom, mark: Mark) -> Network
@@ -53,43 +64,32 @@ pub fn three_depots(room: LaneRoom, mark: Mark) -> Network
             mark: Mark::Standing,
         },
     ];
-    match Network::new(room, PARTS, MOST, 3, &lanes) {
-        Ok(network) => network,
-        Err(_) => unreachable(),
-    }
+    build(room, 3, &lanes)
 }
 
 // Four depots in a ring.
 pub fn ring_of_four(room: LaneRoom) -> Network
     ensures { Made result parts most 4 ring }
 {
-    let mut lanes = [Lane {
-        left: 0,
-        right: 1,
+    let ends = [(0, 1), (1, 2), (2, 3), (3, 0)];
+    let lanes = ends.map(|(left, right)| Lane {
+        left,
+        right,
         chance: 9,
         cost: 1,
         mark: Mark::Standing,
-    }; 4];
-    lanes[1].left = 1;
-    lanes[1].right = 2;
-    lanes[2].left = 2;
-    lanes[2].right = 3;
-    lanes[3].left = 3;
-    lanes[3].right = 0;
-    match Network::new(room, PARTS, MOST, 4, &lanes) {
-        Ok(network) => network,
-        Err(_) => unreachable(),
-    }
+    });
+    build(room, 4, &lanes)
 }
 
 fn ask_chance(network: &Network, set: u32) -> Answer
     requires { question_refusal network.now set ≡ None }
     ensures { result ≡ Answer.Chance (chance_by (connects (depots_of network.now)) network.now set) }
 {
-    match chance(network, set) {
-        Ok(parts) => Answer::Chance(parts),
-        Err(_) => unreachable(),
-    }
+    let Ok(parts) = chance(network, set) else {
+        unreachable()
+    };
+    Answer::Chance(parts)
 }
 
 // The code's answers to the questions of the list, over three rooms for their networks.
