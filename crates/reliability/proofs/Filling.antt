@@ -1,8 +1,7 @@
 -- The scratch, filled from the last lane back.
-use Rattle.std.proofs.Common.{◌≡◌, ℕ, ◌+◌, ◌-◌, ◌<◌, ◌≤◌, ◌≢◌, ◌⊎◌, List, [], ◌∷◌, ◌++◌, length, get_or, drop, set, replicate, sym, refl, ap, ◌∙◌, inl, inr, ⊎_elim, append_assoc, arith}
-use Rattle.std.proofs.lemmas.List.{at_drop_more, drop_all, drop-drop, drop-set-lt, get_or-set_other, get_or-set_same, length-replicate, length-set, replicate_more, set_at, drop_more}
+use Rattle.std.proofs.Common.{◌≡◌, ℕ, ◌+◌, ◌-◌, ◌<◌, ◌≤◌, ◌≢◌, ◌⊎◌, List, [], ◌∷◌, ◌++◌, length, get_or, drop, set, replicate, sym, refl, ap, ◌∙◌, inl, inr, ⊎_elim, append_assoc, append-nil, ap₂, subst, length-append, arith}
+use Rattle.std.proofs.lemmas.List.{drop_at, drop_all, drop-drop, drop-set-lt, get_or-set_other, get_or-set_same, length-replicate, length-set, replicate_more, set_at, drop_more}
 use Rattle.std.proofs.lemmas.Bool.{cases_lt}
-use Rattle.network.specs.Lanes.{no_lane}
 use Rattle.network.specs.declared.lanes.Lane.{Lane}
 use Rattle.semiring.specs.Semirings.{Ops}
 use Rattle.reliability.specs.Spread.{Filled, both, spread}
@@ -14,7 +13,7 @@ pub record FilledSofar {V : Type 0} (o : Ops V) (S : ℕ) (ls : List Lane) (befo
   pub beyond : drop (length ls + 1) places ≡ drop (length ls + 1) before
 
 module _ {V : Type 0} (o : Ops V) (S : ℕ) (ls : List Lane) where
-  pub filled_none : (before : List V) (one : V) → one ≡ o.one → length ls < length before → FilledSofar o S ls (set before (length ls) one) (length ls) (set before (length ls) one)
+  filled_none : (before : List V) (one : V) → one ≡ o.one → length ls < length before → FilledSofar o S ls (set before (length ls) one) (length ls) (set before (length ls) one)
   filled_none before one is within =
       record {
         long = refl;
@@ -27,9 +26,9 @@ module _ {V : Type 0} (o : Ops V) (S : ℕ) (ls : List Lane) where
         beyond = refl;
       }
 
-  -- one place more, by the lane at it and the place after it
-  pub filled_more : (before : List V) (i : ℕ) (places : List V) → FilledSofar o S ls before (i + 1) places → i < length ls → length ls < length before → (v after : V) → after ≡ get_or places (i + 1) after → v ≡ o.product (both o S (get_or ls i no_lane)) after → FilledSofar o S ls before i (set places i v)
-  filled_more before i places so within room v after read is =
+  -- one place more
+  filled_more : (before : List V) (i : ℕ) (places : List V) → FilledSofar o S ls before (i + 1) places → i < length ls → length ls < length before → (v : V) → v ≡ spread o S (drop i ls) → FilledSofar o S ls before i (set places i v)
+  filled_more before i places so within room v is =
       record {
         long = length-set places i v ∙ so.long;
         each = λ k d low high. ⊎_elim (here k d) (λ above. other k d (omega arith) high) (cases_eq_or_above i k low);
@@ -44,14 +43,46 @@ module _ {V : Type 0} (o : Ops V) (S : ℕ) (ls : List Lane) where
           ap (λ (j : ℕ). get_or (set places i v) j d) same
           ∙ get_or-set_same places i v d (omega (arith, so.long))
           ∙ is
-          ∙ ap (o.product (both o S (get_or ls i no_lane))) (read ∙ so.each (i + 1) after (omega arith) (omega arith))
-          ∙ sym (ap (λ (j : ℕ). spread o S (drop j ls)) same ∙ at_drop_more (spread o S) ls i no_lane within)
+          ∙ sym (ap (λ (j : ℕ). spread o S (drop j ls)) same)
 
       other : (k : ℕ) (d : V) → i < k → k ≤ length ls → get_or (set places i v) k d ≡ spread o S (drop k ls)
       other k d above high = let ne : k ≢ i = omega arith in get_or-set_other places i k v d ne ∙ so.each k d (omega arith) high
 
+  -- the lanes that are still to come from the back, and what those after them add up to
+  pub record FillingBack (before : List V) (left : List Lane) (count : ℕ) (rest : V) (places : List V) : Type 0 where
+    pub from_start : count ≡ 0
+    pub split : left ++ drop (length left) ls ≡ ls
+    pub told : rest ≡ spread o S (drop (length left) ls)
+    pub filled : FilledSofar o S ls before (length left) places
+
+  pub back_none : (before : List V) (one : V) → one ≡ o.one → length ls < length before → FillingBack (set before (length ls) one) ls 0 one (set before (length ls) one)
+  back_none before one is within =
+      let past = drop_all (length ls) ls (omega arith) in
+      record {
+        from_start = refl;
+        split = ap (λ back. ls ++ back) past ∙ append-nil ls;
+        told = is ∙ sym (ap (spread o S) past);
+        filled = filled_none before one is within;
+      }
+
+  pub back_more : (before : List V) (left later : List Lane) (count : ℕ) (rest : V) (places : List V) → FillingBack before left count rest places → length ls < length before → (l : Lane) → left ≡ later ++ (l ∷ []) → (i : ℕ) → i ≡ count + length later → (v : V) → v ≡ o.product (both o S l) rest → FillingBack before later count v (set places i v)
+  back_more before left later count rest places so room l last i at v is =
+      let n = length later in
+      let longer : length left ≡ n + 1 = ap length last ∙ length-append later (l ∷ []) in
+      let all : later ++ (l ∷ drop (n + 1) ls) ≡ ls = sym (append_assoc later (l ∷ []) (drop (n + 1) ls)) ∙ ap₂ (λ front (k : ℕ). front ++ drop k ls) (sym last) (sym longer) ∙ so.split in
+      let tail : drop n ls ≡ l ∷ drop (n + 1) ls = sym (ap (drop n) all) ∙ drop_at later (l ∷ drop (n + 1) ls) n refl in
+      let told : v ≡ spread o S (drop n ls) = is ∙ ap (o.product (both o S l)) (so.told ∙ ap (λ (k : ℕ). spread o S (drop k ls)) longer) ∙ sym (ap (spread o S) tail) in
+      let here : i ≡ n = omega (arith, so.from_start) in
+      let within : n < length ls = omega (arith, sym (ap length all) ∙ length-append later (l ∷ drop (n + 1) ls)) in
+      record {
+        from_start = so.from_start;
+        split = ap (λ back. later ++ back) tail ∙ all;
+        told = told;
+        filled = subst (λ (k : ℕ). FilledSofar o S ls before n (set places k v)) (sym here) (filled_more before n places (subst (λ (k : ℕ). FilledSofar o S ls before k places) longer so.filled) within room v told);
+      }
+
   -- every place is filled
-  pub filled_all : (before : List V) (one : V) (i : ℕ) (places : List V) → FilledSofar o S ls (set before (length ls) one) i places → i ≤ 0 → length ls < length before → record { filled : Filled o S ls places; beyond : drop (length ls + 1) places ≡ drop (length ls + 1) before }
+  pub filled_all : (before : List V) (one : V) (i : ℕ) (places : List V) → FilledSofar o S ls (set before (length ls) one) i places → i ≡ 0 → length ls < length before → record { filled : Filled o S ls places; beyond : drop (length ls + 1) places ≡ drop (length ls + 1) before }
   filled_all before one i places so done room =
       record {
         filled = record { long = omega (arith, so.long, length-set before (length ls) one); each = λ k d high. so.each k d (omega arith) high };

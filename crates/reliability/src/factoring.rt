@@ -117,10 +117,11 @@ impl Named<'_> {
         ensures filled { Filled V.ops self.now.scale.parts self.now.lanes.now scratch.new }
         ensures beyond { drop (length self.now.lanes.now + 1) scratch.new ≡ drop (length self.now.lanes.now + 1) scratch.old }
     {
-        let count = self.lanes.len();
-        scratch[count] = V::one();
-        for i in (0..count).rev() {
-            scratch[i] = add_weights::<V>(&self.lanes[i], self.scale).product(scratch[i + 1]);
+        let mut rest = V::one();
+        scratch[self.lanes.len()] = rest;
+        for (i, lane) in self.lanes.iter().enumerate().rev() {
+            rest = add_weights::<V>(lane, self.scale).product(rest);
+            scratch[i] = rest;
         }
     }
 

@@ -1,22 +1,27 @@
-use Rattle.std.proofs.Common.{◌≡◌, ℕ, ◌+◌, ◌-◌, ◌<◌, length, set, sym, ap, ◌∙◌, subst, arith}
+use Rattle.std.proofs.Common.{ℕ, ◌<◌, length, set, sym, ap, ◌∙◌, subst, subst₂}
 use Rattle.std.proofs.lemmas.List.{length-set}
-use Rattle.reliability.proofs.Filling.{FilledSofar, filled_all, filled_none, filled_more}
+use Rattle.reliability.proofs.Filling.{FillingBack, back_more, back_none, filled_all}
 use Rattle.reliability.proofs.named.Named.fill.Goals as goal
 
 pub loop-i-init : goal.loop-i-init
-loop-i-init g c = filled_none _ _ c.args.self.now.lanes.now c.args.scratch.now c.one.result c.one.ensures c.requires
+loop-i-init g c =
+    let ls = c.args.self.now.lanes.now in
+    let start = set c.args.scratch.now (length ls) c.one-rest.result in
+    let source = ap (λ r. r.iter) c.into_iter-i-iterator.ensures.into_iter_gives ∙ c.rev-i-items.ensures.source in
+    let lanes = ap (λ r. r.iter.rest.now) source ∙ ap (λ r. r.rest.now) c.enumerate.ensures.source ∙ c.iter.ensures.rest in
+    subst₂ (λ left (count : ℕ). FillingBack g.V.Semiring.ops c.args.self.now.scale.parts ls start left count c.one-rest.result start) (sym lanes) (sym (ap (λ r. r.count) source ∙ c.enumerate.ensures.count))
+    (back_none g.V.Semiring.ops c.args.self.now.scale.parts ls c.args.scratch.now c.one-rest.result c.one-rest.ensures c.requires)
 
 pub loop-i-preserved : goal.loop-i-preserved
 loop-i-preserved g c =
     let ls = c.args.self.now.lanes.now in
-    let i = c.loop-i.i - 1 in
-    let back : c.loop-i.i ≡ i + 1 = omega arith in
-    let within : i < length ls = omega (arith, c.loop-i.auto.i) in
-    let start = set c.args.scratch.now (length ls) c.one.result in
-    let room : length ls < length start = subst (λ (n : ℕ). length ls < n) (sym (length-set c.args.scratch.now (length ls) c.one.result)) c.requires in
-    let so = subst (λ (k : ℕ). FilledSofar g.V.Semiring.ops c.args.self.now.scale.parts ls start k c.loop-i.scratch) back c.loop-i.invariant in
-    filled_more g.V.Semiring.ops c.args.self.now.scale.parts ls start i c.loop-i.scratch so within room c.product.result c.index-scratch-i.result c.index-scratch-i.is
-    (c.product.ensures ∙ ap (λ v. g.V.Semiring.ops.product v c.index-scratch-i.result) c.add_weights.ensures)
+    let start = set c.args.scratch.now (length ls) c.one-rest.result in
+    let room : length ls < length start = subst (λ (n : ℕ). length ls < n) (sym (length-set c.args.scratch.now (length ls) c.one-rest.result)) c.requires in
+    let step = c.in-Some.ensures.steps in
+    let later = c.next.new.self.iter.iter.rest.now in
+    subst (λ (count : ℕ). FillingBack g.V.Semiring.ops c.args.self.now.scale.parts ls start later count c.product-rest.result (set c.loop-i.scratch c.in-Some.i c.product-rest.result)) (sym step.0)
+    (back_more g.V.Semiring.ops c.args.self.now.scale.parts ls start _ later _ c.loop-i.rest c.loop-i.scratch c.loop-i.invariant room c.in-Some.lane.now step.1.0 c.in-Some.i step.1.1 c.product-rest.result
+    (c.product-rest.ensures ∙ ap (λ v. g.V.Semiring.ops.product v c.loop-i.rest) c.add_weights.ensures))
 
 pub returns : goal.returns
-returns g c = filled_all _ _ c.args.self.now.lanes.now c.args.scratch.now c.one.result c.loop-i.i c.loop-i.scratch c.loop-i.invariant c.loop-i-test.false c.requires
+returns g c = filled_all _ _ c.args.self.now.lanes.now c.args.scratch.now c.one-rest.result _ c.loop-i.scratch c.loop-i.invariant.filled c.in-None.ensures.steps.1.0 c.requires
