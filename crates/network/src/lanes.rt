@@ -8,8 +8,9 @@ ghost use Rattle.network.specs.Sets.{marked};
 use crate::refusals::Refusal;
 use crate::scales::Scale;
 
-#[derive(Clone, Copy, PartialEq, Eq, Debug)]
+#[derive(Clone, Copy, PartialEq, Eq, Debug, Default)]
 pub enum Mark {
+    #[default]
     Struck = 0,
     Standing = 1,
 }
@@ -49,7 +50,7 @@ impl TryFrom<u8> for Mark {
 }
 
 // The two ends are in no order. The chance is in parts of the network's scale.
-#[derive(Clone, Copy, PartialEq, Eq, Debug)]
+#[derive(Clone, Copy, PartialEq, Eq, Debug, Default)]
 pub struct Lane {
     pub left: u8,
     pub right: u8,
