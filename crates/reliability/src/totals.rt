@@ -4,19 +4,11 @@ ghost use Rattle.network.specs.Networks.{depots_of};
 ghost use Rattle.reliability.specs.Questions.{Totalled};
 ghost use Rattle.reliability.specs.Totals.{Tells};
 
-use crate::chosen::{MOST_LANES, choose};
+use crate::chosen::choose;
 use crate::factoring::SCRATCH_PLACES;
 use crate::named::Named;
-use network::{Lane, Mark, Network, Refusal};
+use network::{Network, Refusal};
 use semiring::Semiring;
-
-const NO_LANE: Lane = Lane {
-    left: 0,
-    right: 0,
-    chance: 0,
-    cost: 0,
-    mark: Mark::Struck,
-};
 
 // The sum, over the states of the set's lanes that connect all depots, of the product of the weights.
 pub fn total<V: Semiring>(network: &Network, set: u32, scratch: &mut [V]) -> Result<V, Refusal>
@@ -27,11 +19,9 @@ pub fn total<V: Semiring>(network: &Network, set: u32, scratch: &mut [V]) -> Res
     if scratch.len() < SCRATCH_PLACES {
         return Err(Refusal::ScratchTooShort);
     }
-    let mut table = [NO_LANE; MOST_LANES];
-    let count = choose(network.lanes(), set, &mut table);
-    let all = &table[..];
+    let lanes = choose(network.lanes(), set);
     let named = Named {
-        lanes: &all[0..count],
+        lanes: lanes.as_slice(),
         scale: network.scale(),
         depots: network.depots(),
     };

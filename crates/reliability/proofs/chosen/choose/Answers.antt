@@ -1,6 +1,4 @@
-use Rattle.std.proofs.Common.{sym, ap, ◌∙◌, subst₂, arith}
-use Rattle.std.proofs.lemmas.List.{take_all}
-use Rattle.network.specs.Sets.{chosen}
+use Rattle.std.proofs.Common.{sym, ap, ◌∙◌, subst}
 use Rattle.reliability.proofs.Choosing.{ChosenSofar, chosen_one, chosen_none}
 use Rattle.reliability.proofs.chosen.choose.Goals as goal
 use Rattle.reliability.proofs.chosen.choose.Goals.{then-set-i-eq1, else-set-i-eq1}
@@ -10,13 +8,6 @@ loop-i-preserved c =
     let so = c.loop-i.invariant in
     let within = c.loop-i-test.true in
     elim c.if-set-i-eq1.branch [
-      | then-set-i-eq1 w ↦ subst₂ (ChosenSofar _ _ _) (sym w.count-is) (sym w.table-is) (chosen_one _ _ _ _ _ so within w.if-set-i-eq1.true c.requires)
-      | else-set-i-eq1 w ↦ subst₂ (ChosenSofar _ _ _) (sym w.count-is) (sym w.table-is) (chosen_none _ _ _ _ _ so within w.if-set-i-eq1.false)
+      | then-set-i-eq1 w ↦ subst (ChosenSofar _ _ _) (sym (ap (λ v. v.items) w.named-is ∙ w.push.ensures.items)) (chosen_one _ _ _ _ so within w.if-set-i-eq1.true)
+      | else-set-i-eq1 w ↦ subst (ChosenSofar _ _ _) (sym (ap (λ v. v.items) w.named-is)) (chosen_none _ _ _ _ so within w.if-set-i-eq1.false)
     ]
-
-pub returns : goal.returns
-returns c =
-    record {
-      few = omega (arith, c.loop-i.invariant.few);
-      named = c.loop-i.invariant.named ∙ ap (chosen c.args.set) (take_all _ _ c.loop-i-test.false);
-    }

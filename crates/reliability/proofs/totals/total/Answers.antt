@@ -1,6 +1,4 @@
-use Rattle.std.proofs.Common.{◌≡◌, ℕ, ◌-◌, List, length, take, sym, refl, ap, ◌∙◌, subst, arith}
-use native.Mathlib.Nat.{sub-zero}
-use Rattle.std.proofs.lemmas.List.{length-take}
+use Rattle.std.proofs.Common.{◌≡◌, ℕ, List, length, sym, refl, ap, ◌∙◌, subst, arith}
 use Rattle.network.specs.Connected.{EndsWithin, connects}
 use Rattle.network.specs.Networks.{lanes_of}
 use Rattle.network.specs.Sets.{chosen, given_refusal}
@@ -13,31 +11,26 @@ use Rattle.reliability.proofs.Chances.{ends_named, not_given_first, then_too_sho
 use Rattle.reliability.proofs.Meaning.{connects_is_told, ends_wider}
 use Rattle.reliability.proofs.totals.total.Given as given
 use Rattle.reliability.proofs.totals.total.Goals as goal
-use Rattle.reliability.proofs.totals.total.Goals.{After-choose-count}
+use Rattle.reliability.proofs.totals.total.Goals.{After-as_slice}
 
--- the first places of the table are the lanes that the set names
-table_is : (g : given.Over) (c : After-choose-count g) → take (c.choose-count.result - 0) c.choose-count.new.table ≡ named c.args.network.now c.args.set
-table_is g c =
-    ap (λ k. take k c.choose-count.new.table) (sub-zero c.choose-count.result)
-    ∙ c.choose-count.ensures.named
-    ∙ ap (chosen c.args.set) c.lanes.ensures
+lanes_are : (g : given.Over) (c : After-as_slice g) → c.as_slice.result.now ≡ named c.args.network.now c.args.set
+lanes_are g c = c.as_slice.ensures.value ∙ c.choose-lanes.ensures ∙ ap (chosen c.args.set) c.lanes.ensures
 
 pub invariant_of-named : goal.invariant_of-named
 invariant_of-named g c =
     let network = c.args.network.now in
-    let same = table_is g (goal.at.invariant_of-named g c).After-choose-count in
-    let all : length c.lanes.result.now ≡ length (lanes_of network) = ap length c.lanes.ensures in
+    let same = lanes_are g (goal.at.invariant_of-named g c).After-as_slice in
     record {
       two = omega (arith, c.depots.ensures, network.two);
       ends = subst (EndsWithin 10) (sym same) (ends_wider _ network.ten (named network c.args.set) (ends_named network c.args.set));
-      few = omega (arith, length-take (c.choose-count.result - 0) c.choose-count.new.table, c.choose-count.ensures.few, network.lanes.ok.0, network.few);
+      few = omega (arith, c.as_slice.ensures.fits);
     }
 
 pub returns : goal.returns
 returns g c =
     let network = c.args.network.now in
     let o = g.V.Semiring.ops in
-    let same = table_is g (goal.at.returns g c).After-choose-count in
+    let same = lanes_are g (goal.at.returns g c).After-as_slice in
     let by = λ (scale : Scale) (n : ℕ) (ls : List Lane). total o scale.parts (connects n) ls in
     let value = c.total.ensures.value ∙ (λ i. by (c.scale.ensures i) (c.depots.ensures i) (same i)) in
     record {
