@@ -1,7 +1,7 @@
 -- The scratch, filled from the last lane back.
-use Rattle.std.proofs.Common.{◌≡◌, ℕ, ◌+◌, ◌-◌, ◌<◌, ◌≤◌, ◌≢◌, ◌⊎◌, List, [], ◌∷◌, ◌++◌, length, get_or, drop, set, replicate, sym, refl, ap, ◌∙◌, inl, inr, ⊎_elim, append_assoc, append-nil, ap₂, subst, length-append, arith}
+use Rattle.std.proofs.Common.{◌≡◌, ℕ, ◌+◌, ◌-◌, ◌<◌, ◌≤◌, ◌≢◌, List, [], ◌∷◌, ◌++◌, length, get_or, drop, set, replicate, sym, refl, ap, ◌∙◌, ⊎_elim, append_assoc, append-nil, ap₂, subst, length-append, arith}
 use Rattle.std.proofs.lemmas.List.{drop_at, drop_all, drop-drop, drop-set-lt, get_or-set_other, get_or-set_same, length-replicate, length-set, replicate_more, set_at, drop_more}
-use Rattle.std.proofs.lemmas.Bool.{cases_lt}
+use Rattle.std.proofs.lemmas.Bool.{cases_eq}
 use Rattle.network.specs.declared.lanes.Lane.{Lane}
 use Rattle.semiring.specs.Semirings.{Ops}
 use Rattle.reliability.specs.Spread.{Filled, both, spread}
@@ -31,13 +31,10 @@ module _ {V : Type 0} (o : Ops V) (S : ℕ) (ls : List Lane) where
   filled_more before i places so within room v is =
       record {
         long = length-set places i v ∙ so.long;
-        each = λ k d low high. ⊎_elim (here k d) (λ above. other k d (omega arith) high) (cases_eq_or_above i k low);
+        each = λ k d low high. ⊎_elim (here k d) (λ differ. other k d (omega arith) high) (cases_eq k i);
         beyond = drop-set-lt (length ls + 1) places i v (omega arith) ∙ so.beyond;
       }
     where
-      cases_eq_or_above : (i k : ℕ) → i ≤ k → (k ≡ i) ⊎ (i < k)
-      cases_eq_or_above i k low = ⊎_elim (λ below. inr below) (λ above. inl (omega arith)) (cases_lt i k)
-
       here : (k : ℕ) (d : V) → k ≡ i → get_or (set places i v) k d ≡ spread o S (drop k ls)
       here k d same =
           ap (λ (j : ℕ). get_or (set places i v) j d) same

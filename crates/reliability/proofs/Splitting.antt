@@ -1,6 +1,6 @@
 -- A total by its first lane: the equations by which factoring goes, in every commutative semiring.
 use Rattle.std.proofs.Common.{◌≡◌, ℕ, ◌+◌, ◌-◌, ◌<◌, ◌≤◌, Bool, true, false, cond, List, [], ◌∷◌, ◌++◌, map, length, sym, refl, ap, ◌∙◌, ap₂, arith}
-use mathlib.Core.List.{map-append}
+use mathlib.Core.List.{map-append, map-map}
 use Rattle.std.proofs.lemmas.Bool.{cond_both, cond-true, cond-false, le-leb, lt-leb}
 use Rattle.network.specs.Connected.{connects_from, labels_after, meets, merged, parts_after}
 use Rattle.network.specs.declared.lanes.Lane.{Lane}
@@ -53,10 +53,6 @@ module _ {V : Type 0} (o : Ops V) (laws : Laws o) where
   product_cond w true v = refl
   product_cond w false v = sym (product_zero_right w)
 
-  map_after : {X Y : Type 0} (f : Y → V) (g : X → Y) (xs : List X) → map f (map g xs) ≡ map (λ x. f (g x)) xs
-  map_after f g [] = refl
-  map_after f g (x ∷ xs) = ap (λ vs. f (g x) ∷ vs) (map_after f g xs)
-
   module _ (S : ℕ) where
     factored : (v : V) (l : Lane) → o.product (both o S l) v ≡ o.sum (o.product (o.running S l) v) (o.product (o.failing S l) v)
     factored v l =
@@ -70,9 +66,9 @@ module _ {V : Type 0} (o : Ops V) (laws : Laws o) where
         ap (sum_of o) (map-append (part o S test) (map (λ state. runs l ∷ state) (states ls)) (map (λ state. fails l ∷ state) (states ls)))
         ∙ sum_append _ _
         ∙ ap₂ o.sum
-        (ap (sum_of o) (map_after (part o S test) (λ state. runs l ∷ state) (states ls))
+        (ap (sum_of o) (map-map (part o S test) (λ state. runs l ∷ state) (states ls))
         ∙ sum_scaled (o.running S l) _ (part o S (λ rs. test (l ∷ rs))) (λ state. product_cond (o.running S l) (test (l ∷ running_lanes state)) (weight o S state)) (states ls))
-        (ap (sum_of o) (map_after (part o S test) (λ state. fails l ∷ state) (states ls))
+        (ap (sum_of o) (map-map (part o S test) (λ state. fails l ∷ state) (states ls))
         ∙ sum_scaled (o.failing S l) _ (part o S test) (λ state. product_cond (o.failing S l) (test (running_lanes state)) (weight o S state)) (states ls))
 
     -- tests that agree on the parts of the list give one total

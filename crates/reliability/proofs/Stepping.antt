@@ -9,9 +9,9 @@ use Rattle.reliability.specs.Spread.{Filled, both, mixed}
 use Rattle.reliability.specs.Totals.{total}
 use Rattle.reliability.proofs.Splitting.{from_apart, from_connected, from_hopeless, from_met, product_zero_right, sum_zero_right}
 
-pub ends_at : (n : ℕ) (ls : List Lane) (i : ℕ) → EndsWithin n ls → i < length ls → ((get_or ls i no_lane).left < n) × ((get_or ls i no_lane).right < n)
+pub ends_at : (n : ℕ) (ls : List Lane) (i : ℕ) → EndsWithin n ls → i < length ls → EndsWithin n (get_or ls i no_lane ∷ [])
 ends_at n [] i ends within = absurd (omega arith)
-ends_at n (l ∷ ls) zero ends within = (ends.0, ends.1)
+ends_at n (l ∷ ls) zero ends within = (ends.0, ends.1, tt)
 ends_at n (l ∷ ls) (suc i) ends within = ends_at n ls i ends.2 (omega arith)
 
 module _ {V : Type 0} (o : Ops V) (laws : Laws o) (S : ℕ) (ls : List Lane) (labels : List ℕ) where

@@ -30,6 +30,7 @@ fn mix<V: Semiring>(lane: &Lane, scale: Scale, runs: V, fails: V) -> V
     runs.sum(V::failing(lane, scale).product(fails))
 }
 
+// Puts the semiring's zero into each place.
 fn clear<V: Semiring>(places: &mut [V])
     ensures { places.new ≡ replicate (length places.old) V.ops.zero }
 {
@@ -55,6 +56,7 @@ impl<V: Semiring> Task<'_, V> {
         ensures { result ≡ from_lane V.ops self.now.named i labels.now 2 }
     {
         let mut value = V::zero();
+        // by index: over the elements, by `iter().rev().zip(..)`, the same in Rust takes 3 to 5 instructions in 100 more for a total
         for k in (i..self.named.lanes.len()).rev() {
             let lane = &self.named.lanes[k];
             if labels.meet(lane) {

@@ -1,6 +1,6 @@
 // Labels of the depots: depots of one part have one label.
-ghost use Rattle.std.specs.Prelude.{◌≡◌, ◌<◌};
-ghost use Rattle.network.specs.Connected.{label_at, meets, merged, own_labels, relabelled};
+ghost use Rattle.std.specs.Prelude.{◌≡◌, ◌<◌, [], ◌∷◌};
+ghost use Rattle.network.specs.Connected.{EndsWithin, label_at, meets, merged, own_labels, relabelled};
 
 use network::Lane;
 
@@ -36,8 +36,7 @@ impl Labels {
 
     // Whether the lane's ends are of one part.
     pub(crate) fn meet(&self, lane: &Lane) -> bool
-        requires left { lane.now.left < 10 }
-        requires right { lane.now.right < 10 }
+        requires { EndsWithin 10 (lane.now ∷ []) }
         ensures { result ≡ meets self.now.each lane.now }
     {
         self.at(lane.left) == self.at(lane.right)
@@ -45,8 +44,7 @@ impl Labels {
 
     // The part of the lane's right end gets the label of its left end.
     pub(crate) fn merge(&self, lane: &Lane) -> Labels
-        requires left { lane.now.left < 10 }
-        requires right { lane.now.right < 10 }
+        requires { EndsWithin 10 (lane.now ∷ []) }
         ensures { result.each ≡ merged self.now.each lane.now }
     {
         let kept = self.at(lane.left);

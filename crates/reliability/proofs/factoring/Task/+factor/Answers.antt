@@ -9,14 +9,10 @@ use Rattle.reliability.proofs.factoring.Task.+factor.Goals as goal
 use Rattle.reliability.proofs.factoring.Task.+factor.Goals.{Joined-parts-eq3, then-parts-eq3, else-parts-eq3}
 
 pub meet-requires : goal.meet-requires
-meet-requires g t c =
-    let ends = ends_at 10 _ c.args.i c.args.self.now.named.ends (omega arith) in
-    record { left = ends.0; right = ends.1 }
+meet-requires g t c = ends_at 10 _ c.args.i c.args.self.now.named.ends (omega arith)
 
 pub merge-merged-requires : goal.merge-merged-requires
-merge-merged-requires g t c =
-    let ends = ends_at 10 _ c.args.i c.args.self.now.named.ends (omega arith) in
-    record { left = ends.0; right = ends.1 }
+merge-merged-requires g t c = ends_at 10 _ c.args.i c.args.self.now.named.ends (omega arith)
 
 -- what follows if the lane runs
 runs_told : (g : given.Over) (t : ℕ) (c : Joined-parts-eq3 g t) → c.if-parts-eq3.runs ≡ total g.V.Semiring.ops c.args.self.now.named.scale.parts (connects_from (merged c.args.labels.now.each (get_or (lanes_in c.args.self.now.named) c.args.i no_lane)) (c.args.parts - 1)) (drop (c.args.i + 1) (lanes_in c.args.self.now.named))

@@ -4,9 +4,7 @@ use Rattle.reliability.proofs.Stepping.{ends_at, join_apart, none_left, step_met
 use Rattle.reliability.proofs.factoring.Task.join_two.Goals as goal
 
 pub meet-requires : goal.meet-requires
-meet-requires g c =
-    let ends = ends_at 10 _ (c.loop-k.k - 1) c.args.self.now.named.ends (omega (arith, c.loop-k.auto.k)) in
-    record { left = ends.0; right = ends.1 }
+meet-requires g c = ends_at 10 _ (c.loop-k.k - 1) c.args.self.now.named.ends (omega (arith, c.loop-k.auto.k))
 
 pub loop-k-init : goal.loop-k-init
 loop-k-init g c =
