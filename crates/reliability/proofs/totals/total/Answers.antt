@@ -1,13 +1,13 @@
-use Rattle.std.proofs.Common.{◌≡◌, ℕ, List, length, sym, refl, ap, ◌∙◌, subst, arith}
+use Rattle.std.proofs.Common.{◌≡◌, ℕ, List, sym, ap, ◌∙◌, subst, arith}
 use Rattle.network.specs.Connected.{EndsWithin, connects}
 use Rattle.network.specs.Networks.{lanes_of}
 use Rattle.network.specs.Sets.{chosen, given_refusal}
 use Rattle.network.specs.declared.lanes.Lane.{Lane}
 use Rattle.network.specs.declared.scales.Scale.{Scale}
-use Rattle.network.proofs.Offers.{left_with, passed, refused}
+use Rattle.network.proofs.Offers.{passed}
 use Rattle.reliability.specs.Questions.{named}
 use Rattle.reliability.specs.Totals.{total}
-use Rattle.reliability.proofs.Chances.{ends_named, not_given_first, then_too_short, total_answered, total_refused}
+use Rattle.reliability.proofs.Chances.{ends_named, total_answered}
 use Rattle.reliability.proofs.Meaning.{connects_is_told, ends_wider}
 use Rattle.reliability.proofs.totals.total.Given as given
 use Rattle.reliability.proofs.totals.total.Goals as goal
@@ -39,18 +39,8 @@ returns g c =
       tells = connects_is_told network.depots network.ten;
     }
 
-pub returns-in_err-check_given : goal.returns-in_err-check_given
-returns-in_err-check_given g c =
-    let network = c.args.network.now in
-    record {
-      totalled = total_refused network c.args.set g.V.Semiring.ops c.args.scratch.now _ _ (left_with _ _ c.from_residual.ensures.1) (not_given_first network c.args.set _ (length c.args.scratch.now) (refused (given_refusal (lanes_of network) c.args.set) _ tt c.in_err-check_given.ensures));
-      tells = connects_is_told network.depots network.ten;
-    }
+pub returns-in_err-check_given-clause-tells : goal.returns-in_err-check_given-clause-tells
+returns-in_err-check_given-clause-tells g c = connects_is_told c.args.network.now.depots c.args.network.now.ten
 
-pub returns-then-scratch-lt-SCRATCH_PLACES : goal.returns-then-scratch-lt-SCRATCH_PLACES
-returns-then-scratch-lt-SCRATCH_PLACES g c =
-    let network = c.args.network.now in
-    record {
-      totalled = total_refused network c.args.set g.V.Semiring.ops c.args.scratch.now _ _ refl (then_too_short network c.args.set (length c.args.scratch.now) (passed (given_refusal (lanes_of network) c.args.set) tt tt c.in_ok-check_given.ensures) c.if-scratch-lt-SCRATCH_PLACES.true);
-      tells = connects_is_told network.depots network.ten;
-    }
+pub returns-then-scratch-lt-SCRATCH_PLACES-clause-tells : goal.returns-then-scratch-lt-SCRATCH_PLACES-clause-tells
+returns-then-scratch-lt-SCRATCH_PLACES-clause-tells g c = connects_is_told c.args.network.now.depots c.args.network.now.ten

@@ -1,17 +1,10 @@
 use Rattle.std.proofs.Common.{◌≡◌, ℕ, ◌+◌, ◌-◌, ◌<◌, length, sym, ap, ◌∙◌, arith}
 use Rattle.reliability.specs.Tasks.{from_lane, lanes_in}
-use Rattle.reliability.proofs.Stepping.{ends_at, join_apart, none_left, step_met}
+use Rattle.reliability.proofs.Stepping.{ends_at, join_apart, step_met}
 use Rattle.reliability.proofs.factoring.Task.join_two.Goals as goal
 
 pub meet-requires : goal.meet-requires
 meet-requires g c = ends_at 10 _ (c.loop-k.k - 1) c.args.self.now.named.ends (omega (arith, c.loop-k.auto.k))
-
-pub loop-k-init : goal.loop-k-init
-loop-k-init g c =
-    let named = c.args.self.now.named in (
-      c.requires.within,
-      c.zero-value.ensures ∙ none_left g.V.Semiring.ops g.met.V.Semiring.laws named.scale.parts (lanes_in named) c.args.labels.now.each (length (lanes_in named)) 2 (omega arith),
-    )
 
 pub loop-k-preserved-then-meet : goal.loop-k-preserved-then-meet
 loop-k-preserved-then-meet g c =
@@ -41,8 +34,3 @@ loop-k-preserved g c =
       c.mix-value.ensures
           ∙ join_apart o g.met.V.Semiring.laws named.scale.parts (lanes_in named) labels.each c.args.self.now.rest.now c.args.self.now.filled k within c.index-self-k.result c.loop-k.value after (sym c.meet.ensures ∙ c.if-meet.false),
     )
-
-pub returns : goal.returns
-returns g c =
-    let last : c.loop-k.k ≡ c.args.i = omega (arith, c.loop-k.invariant.0) in
-    c.loop-k.invariant.1 ∙ ap (λ (j : ℕ). from_lane g.V.Semiring.ops c.args.self.now.named j c.args.labels.now 2) last

@@ -1,16 +1,7 @@
-use Rattle.std.proofs.Common.{ℕ, ◌<◌, length, set, sym, ap, ◌∙◌, subst, subst₂}
+use Rattle.std.proofs.Common.{ℕ, ◌<◌, length, set, sym, ap, ◌∙◌, subst}
 use Rattle.std.proofs.lemmas.List.{length-set}
-use Rattle.reliability.proofs.Filling.{FillingBack, back_more, back_none, filled_all}
+use Rattle.reliability.proofs.Filling.{FillingBack, back_more}
 use Rattle.reliability.proofs.named.Named.fill.Goals as goal
-
-pub loop-i-init : goal.loop-i-init
-loop-i-init g c =
-    let ls = c.args.self.now.lanes.now in
-    let start = set c.args.scratch.now (length ls) c.one-rest.result in
-    let source = ap (λ r. r.iter) c.into_iter-i-iterator.ensures.into_iter_gives ∙ c.rev-i-items.ensures.source in
-    let lanes = ap (λ r. r.iter.rest.now) source ∙ ap (λ r. r.rest.now) c.enumerate.ensures.source ∙ c.iter.ensures.rest in
-    subst₂ (λ left (count : ℕ). FillingBack g.V.Semiring.ops c.args.self.now.scale.parts ls start left count c.one-rest.result start) (sym lanes) (sym (ap (λ r. r.count) source ∙ c.enumerate.ensures.count))
-    (back_none g.V.Semiring.ops c.args.self.now.scale.parts ls c.args.scratch.now c.one-rest.result c.one-rest.ensures c.requires)
 
 pub loop-i-preserved : goal.loop-i-preserved
 loop-i-preserved g c =
@@ -22,6 +13,3 @@ loop-i-preserved g c =
     subst (λ (count : ℕ). FillingBack g.V.Semiring.ops c.args.self.now.scale.parts ls start later count c.product-rest.result (set c.loop-i.scratch c.in-Some.i c.product-rest.result)) (sym step.0)
     (back_more g.V.Semiring.ops c.args.self.now.scale.parts ls start _ later _ c.loop-i.rest c.loop-i.scratch c.loop-i.invariant room c.in-Some.lane.now step.1.0 c.in-Some.i step.1.1 c.product-rest.result
     (c.product-rest.ensures ∙ ap (λ v. g.V.Semiring.ops.product v c.loop-i.rest) c.add_weights.ensures))
-
-pub returns : goal.returns
-returns g c = filled_all _ _ c.args.self.now.lanes.now c.args.scratch.now c.one-rest.result _ c.loop-i.scratch c.loop-i.invariant.filled c.in-None.ensures.steps.1.0 c.requires
