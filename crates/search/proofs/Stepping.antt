@@ -1,5 +1,5 @@
 -- One opening, as the code makes it: what is decided of the newest branch is applied to the rest.
-use Rattle.std.proofs.Common.{◌≡◌, ℕ, zero, suc, ◌+◌, ◌-◌, ◌^◌, ◌<◌, ◌≤◌, Bool, true, false, cond, ◌&&◌, eqb, List, [], ◌∷◌, ◌++◌, reverse, length, Some, Option, sym, refl, ap, ◌∙◌, arith, pow_mono}
+use Rattle.std.proofs.Common.{◌≡◌, ℕ, zero, suc, ◌+◌, ◌-◌, ◌^◌, ◌<◌, ◌≤◌, Bool, true, false, cond, ◌&&◌, ◌⊎◌, eqb, List, [], ◌∷◌, ◌++◌, reverse, length, Some, Option, sym, refl, ap, ◌∙◌, subst, ⊎_elim, arith, pow_mono}
 use lib.Count.{ones, ones-le}
 use Rattle.std.proofs.lemmas.List.{length-reverse, reverse-append}
 use Rattle.std.proofs.lemmas.Bool.{and_from, and_parts, eqb-false, leb-true, le-leb, lt-ltb, ltb-false, ltb-true, ne_eqb, or_parts}
@@ -151,10 +151,15 @@ fits_many p n few (suc w) x kept fits =
 
 -- ---- one opening on the code's own parts
 
--- the code's parts after an opening: the room is still there, and they are what the rule says
-pub record Opened (p : Problem) (items : List Branch) (best : Option ℕ) (made : ℕ) (room : ℕ) (left : List Branch) (best_then : Option ℕ) : Type 0 where
-  pub roomy : most_pending ≤ room
-  pub is : record { pending = reverse left; best = best_then; openings = made + 1 } ≡ open_from p (reverse items) best made
+-- what was decided of the newest branch, applied, keeps what an opening keeps
+pub keeps_led : (p : Problem) (n : ℕ) → n ≤ 20 → (best : Option ℕ) (b : Branch) (items rest : List Branch) (made : ℕ) (o : Opening) → o ≡ decided p best b → items ≡ rest ++ (b ∷ []) → Kept n (record { pending = reverse items; best = best; openings = made }) → Kept n (applied o b (reverse rest) best made)
+keeps_led p n few best b items rest made o is last kept =
+    subst (Kept n) (sym (led p best b items rest made o is last)) (keeps p n few (reverse items) best made kept)
+
+-- a branch that is dropped, or misses the goal, leaves the rest
+pub passed_over : (o : Opening) → (o ≡ Dropped) ⊎ (o ≡ Missed) → (b : Branch) (rest : List Branch) (best : Option ℕ) (made : ℕ) → applied o b rest best made ≡ record { pending = rest; best = best; openings = made + 1 }
+passed_over o either b rest best made =
+    ⊎_elim (λ is. ap (λ (d : Opening). applied d b rest best made) is) (λ is. ap (λ (d : Opening). applied d b rest best made) is) either
 
 pub given_newest : (n : ℕ) (items rest : List Branch) (b : Branch) → items ≡ rest ++ (b ∷ []) → all_given n (reverse items) ≡ true → b.picked + b.undecided < 2 ^ n
 given_newest n items rest b last given = ltb-true _ _ (and_parts _ _ (ap (all_given n) (sym (newest items rest b last)) ∙ given)).0

@@ -3,6 +3,7 @@ use Rattle.std.proofs.Common.{◌≡◌, ℕ, zero, suc, ◌+◌, ◌-◌, ◌*�
 use lib.Count.{ones, ones_cat, ones-le, ones-ones, ones_step}
 use Rattle.std.proofs.lemmas.Nat.{div_below, leading_top, one_shl}
 use Rattle.std.proofs.lemmas.Bool.{cases_eq}
+use Rattle.std.specs.Int.Count.{leading_unique}
 use Rattle.network.specs.Sets.{bit}
 use Rattle.network.proofs.Masks.{bit_first, bit_half, bit_low, bit_none, bit_sum, half_below}
 use Rattle.search.specs.Opening.{highest}
@@ -89,6 +90,13 @@ module _ (u : ℕ) (top : Top u) where
   ones_rest =
       let together : 1 * 2 ^ highest u + rest ≡ u = omega (arith, whole) in
       ap ones (sym together) ∙ ones_cat (highest u) 1 rest rest_low ∙ omega (arith, ones-ones 1)
+
+-- the logarithm that the code takes is the highest lane
+pub highest_is : (u r : ℕ) → 2 ^ r ≤ u → u < 2 * 2 ^ r → r < 32 → r ≡ highest u
+highest_is u r low high small =
+    let double = pow-suc 2 r in
+    let zeros = leading_unique 32 u (31 - r) (suc r) (omega arith) (omega arith) (omega arith) in
+    omega (arith, zeros)
 
 -- the shift that the code takes for the highest lane
 pub shifted : (u : ℕ) → (1 * 2 ^ highest u) % 2 ^ 32 ≡ 2 ^ highest u

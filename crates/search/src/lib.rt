@@ -7,5 +7,5 @@ mod deciding;
 mod searching;
 
 pub use branches::Branch;
-pub use deciding::Goal;
+pub use deciding::Problem;
 pub use searching::{Search, SearchRoom};
