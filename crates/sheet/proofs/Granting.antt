@@ -36,7 +36,7 @@ since_next base sum m since false (Offer left right chance cost) = since_change 
 since_next base sum m since false (Strike lane) = since_change (carried m (Strike lane)) refl
 since_next base sum m since false (Restore lane) = since_change (carried m (Restore lane)) refl
 since_next base sum m since false (Reprice lane chance cost) = since_change (carried m (Reprice lane chance cost)) refl
-since_next base sum m since false (StateGoal places parts) = since_change (carried m (StateGoal places parts)) refl
+since_next base sum m since false (StateGoal goal) = since_change (carried m (StateGoal goal)) refl
 since_next base sum m since false (Grant openings) =
     record {
       changed = since.changed;

@@ -1,13 +1,12 @@
 -- What a grant leaves of a sheet that works, and of one that has ended.
 use Rattle.std.proofs.Common.{◌≡◌, ℕ, ◌+◌, ◌≤◌, Bool, true, false, cond, ◌⊎◌, [], length, is_some, Some, None, Ok, Err, Option, Result, sym, refl, ap, ◌∙◌, subst}
 use Rattle.network.specs.Answers.{first_of, told}
-use Rattle.network.specs.Networks.{lanes_of, most_of, parts_of}
+use Rattle.network.specs.Networks.{depots_of, lanes_of, most_of, parts_of}
 use Rattle.network.specs.declared.networks.Network.{Network}
 use Rattle.network.specs.declared.refusals.Refusal.{Refusal}
 use Rattle.bounds.specs.Questions.{Asked}
-use Rattle.search.specs.Deciding.{problem_of}
 use Rattle.search.specs.Keeping.{all_given, all_work, best_fits, most_openings, shallow}
-use Rattle.search.specs.Opening.{Progress, open_many}
+use Rattle.search.specs.Opening.{Problem, Progress, open_many}
 use Rattle.search.proofs.Counting.{idle}
 use Rattle.search.proofs.Stepping.{Kept, few_lanes, fits_many, keeps_many}
 use Rattle.sheet.specs.Calls.{Stepped, carried, goal_missing, granted_by, size_refusal, verdict}
@@ -29,23 +28,35 @@ grant_verdict m g stated openings = ap (λ (q : Option Goal). first_of (goal_mis
 pub refused_grant : (m : Model) (g : Goal) → m.goal ≡ Some g → (openings : ℕ) (r : Result (Unit {0}) Refusal) (e : Refusal) → size_refusal openings ≡ Some e → r ≡ Err e → Stepped m (Grant openings) r m
 refused_grant m g stated openings r e too_large answer = refused_step m (Grant openings) r m e (grant_verdict m g stated openings ∙ too_large) answer refl
 
+-- what the code searches
+abbrev searched : Network → ℕ → (Asked → ℕ) → Problem
+searched network least tell =
+    record {
+      parts = parts_of network;
+      most = most_of network;
+      depots = depots_of network;
+      lanes = lanes_of network;
+      least = least;
+      tell = tell;
+    }
+
 module _ (network : Network) (tell : Asked → ℕ) (goal : Option Goal) (least : ℕ) (state : State) (x : Progress) (facts : Facts (contents_of network) goal least state x) (g : Goal) (stated : goal ≡ Some g) (openings : ℕ) where
   least_is : least ≡ least_chance (parts_of network) (most_of network) g
   least_is = facts.reached ∙ ap (least_for (parts_of network) (most_of network)) stated
 
   -- the code's problem is the sheet's
-  same_search : open_many (problem_of network least tell) openings x ≡ open_many (problem (contents_of network) tell g) openings x
-  same_search = ap (λ (n : ℕ). open_many (problem_of network n tell) openings x) least_is
+  same_search : open_many (searched network least tell) openings x ≡ open_many (problem (contents_of network) tell g) openings x
+  same_search = ap (λ (n : ℕ). open_many (searched network n tell) openings x) least_is
 
-  pub granted_step : (y : Progress) → size_refusal openings ≡ None → y ≡ open_many (problem_of network least tell) openings x → Stepped (record { contents = contents_of network; tell = tell; goal = goal; progress = x }) (Grant openings) (Ok tt) (record { contents = contents_of network; tell = tell; goal = goal; progress = y })
+  pub granted_step : (y : Progress) → size_refusal openings ≡ None → y ≡ open_many (searched network least tell) openings x → Stepped (record { contents = contents_of network; tell = tell; goal = goal; progress = x }) (Grant openings) (Ok tt) (record { contents = contents_of network; tell = tell; goal = goal; progress = y })
   granted_step y fine is =
       let m : Model = record { contents = contents_of network; tell = tell; goal = goal; progress = x } in
       accepted_step m (Grant openings) _ (grant_verdict m g stated openings ∙ fine)
       (ap (λ (z : Progress). record { contents = contents_of network; tell = tell; goal = goal; progress = z }) (is ∙ same_search) ∙ sym (ap (λ (q : Option Goal). granted_by q m openings) stated))
 
-  pub granted_facts : (later : State) (y : Progress) → shallow x.pending ≡ true → x.openings + all_work x.pending ≤ most_openings → y ≡ open_many (problem_of network least tell) openings x → later ≡ searched_state y.pending y.best → Facts (contents_of network) goal least later y
+  pub granted_facts : (later : State) (y : Progress) → shallow x.pending ≡ true → x.openings + all_work x.pending ≤ most_openings → y ≡ open_many (searched network least tell) openings x → later ≡ searched_state y.pending y.best → Facts (contents_of network) goal least later y
   granted_facts later y low counted is stands =
-      let p = problem_of network least tell in
+      let p = searched network least tell in
       let n = length (lanes_of network) in
       let kept : Kept n x = record { given = facts.given; low = low; counted = counted } in
       record {

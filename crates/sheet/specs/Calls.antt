@@ -55,7 +55,7 @@ verdict m (Offer left right chance cost) =
 verdict m (Strike lane) = mark_refusal m.contents.lanes lane Struck
 verdict m (Restore lane) = mark_refusal m.contents.lanes lane Standing
 verdict m (Reprice lane chance cost) = reprice_refusal m.contents.parts m.contents.lanes lane chance cost
-verdict m (StateGoal places parts) = goal_refusal m.contents.parts m.contents.most (goal_of places parts)
+verdict m (StateGoal goal) = goal_refusal m.contents.parts m.contents.most goal
 verdict m (Grant openings) = first_of (goal_missing m.goal) (size_refusal openings)
 
 -- ---- what an accepted call does
@@ -86,7 +86,7 @@ carried m (Offer left right chance cost) = changed m (m.contents.lanes ++ (offer
 carried m (Strike lane) = changed m (marked_at m.contents.lanes lane Struck) m.goal
 carried m (Restore lane) = changed m (marked_at m.contents.lanes lane Standing) m.goal
 carried m (Reprice lane chance cost) = changed m (repriced_at m.contents.lanes lane chance cost) m.goal
-carried m (StateGoal places parts) = changed m m.contents.lanes (Some (goal_of places parts))
+carried m (StateGoal goal) = changed m m.contents.lanes (Some goal)
 carried m (Grant openings) = granted m openings
 
 -- striking and restoring are the calls that set a mark

@@ -20,7 +20,7 @@ sum_with sum (Offer left right chance cost) = 0
 sum_with sum (Strike lane) = 0
 sum_with sum (Restore lane) = 0
 sum_with sum (Reprice lane chance cost) = 0
-sum_with sum (StateGoal places parts) = 0
+sum_with sum (StateGoal goal) = 0
 sum_with sum (Grant openings) = sum + openings
 
 abbrev pub base_with : Model → Model → Call → Model
@@ -28,7 +28,7 @@ base_with base later (Offer left right chance cost) = later
 base_with base later (Strike lane) = later
 base_with base later (Restore lane) = later
 base_with base later (Reprice lane chance cost) = later
-base_with base later (StateGoal places parts) = later
+base_with base later (StateGoal goal) = later
 base_with base later (Grant openings) = base
 
 -- ---- along a run; a refused call counts for nothing

@@ -29,10 +29,7 @@ pub enum Call {
         chance: u16,
         cost: u32,
     },
-    StateGoal {
-        places: u8,
-        parts: u64,
-    },
+    StateGoal(Goal),
     Grant {
         openings: u32,
     },

@@ -69,10 +69,9 @@ impl<B: Bound> Sheet<B> {
         Ok(())
     }
 
-    pub(crate) fn take_goal(&mut self, places: u8, parts: u64) -> Result<(), Refusal>
-        ensures { Stepped (model_of B.tells self.old) (StateGoal places parts) result (model_of B.tells self.new) }
+    pub(crate) fn take_goal(&mut self, goal: Goal) -> Result<(), Refusal>
+        ensures { Stepped (model_of B.tells self.old) (StateGoal goal) result (model_of B.tells self.new) }
     {
-        let goal = Goal { places, parts };
         self.least = find_least(goal, self.network.scale())?;
         self.goal = Some(goal);
         self.state = begin(&mut self.seeking, &self.network, self.goal);

@@ -12,7 +12,7 @@ use crate::sheets::Sheet;
 use crate::words::{MOST_GRANTED, State};
 use bounds::Bound;
 use network::Refusal;
-use search::{Goal, Search};
+use search::{Problem, Search};
 
 pub(crate) fn check_grant(openings: u32) -> Result<(), Refusal>
     ensures { result ≡ told (size_refusal openings) tt }
@@ -40,11 +40,12 @@ impl<B: Bound> Sheet<B> {
         ensures { Stepped (model_of B.tells self.old) (Grant openings) result (model_of B.tells self.new) }
     {
         check_grant(openings)?;
-        let target = Goal {
+        let problem = Problem {
             network: &self.network,
+            bound: &self.bound,
             least: self.least,
         };
-        self.seeking.open_many(target, &self.bound, openings);
+        self.seeking.open_many(&problem, openings);
         self.state = find_state(&self.seeking);
         Ok(())
     }

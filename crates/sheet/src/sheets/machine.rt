@@ -5,7 +5,7 @@ ghost use Rattle.sheet.specs.declared.words.Call.TheVariants.{Grant, Offer, Repr
 
 use crate::sheets::Sheet;
 use crate::sheets::grants::check_grant;
-use crate::words::{Call, State};
+use crate::words::{Call, Goal, State};
 use bounds::Bound;
 use network::{Mark, Refusal};
 
@@ -26,7 +26,7 @@ impl<B: Bound> Sheet<B> {
             (_, Call::Strike { lane }) => self.mark_lane(lane, Mark::Struck),
             (_, Call::Restore { lane }) => self.mark_lane(lane, Mark::Standing),
             (_, Call::Reprice { lane, chance, cost }) => self.price_lane(lane, chance, cost),
-            (_, Call::StateGoal { places, parts }) => self.take_goal(places, parts),
+            (_, Call::StateGoal(goal)) => self.take_goal(goal),
             (State::Drafting, Call::Grant { openings: _ }) => Err(Refusal::NoGoal),
             (State::Working, Call::Grant { openings }) => self.work(openings),
             // an ended sheet has nothing to open
@@ -64,10 +64,10 @@ impl<B: Bound> Sheet<B> {
         self.call(Call::Reprice { lane, chance, cost })
     }
 
-    pub fn state_goal(&mut self, places: u8, parts: u64) -> Result<(), Refusal>
-        ensures { Stepped (model_of B.tells self.old) (StateGoal places parts) result (model_of B.tells self.new) }
+    pub fn state_goal(&mut self, goal: Goal) -> Result<(), Refusal>
+        ensures { Stepped (model_of B.tells self.old) (StateGoal goal) result (model_of B.tells self.new) }
     {
-        self.call(Call::StateGoal { places, parts })
+        self.call(Call::StateGoal(goal))
     }
 
     pub fn grant(&mut self, openings: u32) -> Result<(), Refusal>
