@@ -20,11 +20,11 @@ start = opened parts most 3 plain_tells
 -- two lanes, a goal, a grant, one that is too large, a lane that was not given, another grant, the third lane, and grants to the end
 abbrev pub the_run : List Call
 the_run =
-    Offer 0 1 9 4 ∷ Offer 1 2 9 5 ∷ StateGoal 1 8 ∷ Grant 3 ∷ Grant 2097152 ∷ Strike 2 ∷ Grant 2 ∷ Offer 0 2 8 7 ∷ Grant 5 ∷ Grant 10 ∷ []
+    Offer 0 1 9 4 ∷ Offer 1 2 9 5 ∷ StateGoal (goal_of 1 8) ∷ Grant 3 ∷ Grant 2097152 ∷ Strike 2 ∷ Grant 2 ∷ Offer 0 2 8 7 ∷ Grant 5 ∷ Grant 10 ∷ []
 
 -- the same calls up to the last change
 abbrev pub changes : List Call
-changes = Offer 0 1 9 4 ∷ Offer 1 2 9 5 ∷ StateGoal 1 8 ∷ Offer 0 2 8 7 ∷ []
+changes = Offer 0 1 9 4 ∷ Offer 1 2 9 5 ∷ StateGoal (goal_of 1 8) ∷ Offer 0 2 8 7 ∷ []
 
 -- all sets of the three lanes, and a goal of 8 parts of 10
 abbrev pub searched : Problem

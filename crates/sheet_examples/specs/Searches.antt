@@ -2,11 +2,12 @@
 use Rattle.std.specs.Prelude.{◌≡◌, ℕ, List, [], ◌∷◌, map, Some, None}
 use Rattle.bounds.specs.Numbers.{depot_tells, plain_tells, whole_tells}
 use Rattle.bounds.specs.Questions.{Asked}
-use Rattle.sheet.specs.Calls.{opened}
+use Rattle.sheet.specs.Calls.{goal_of, opened}
 use Rattle.sheet.specs.Models.{Model, report_of}
 use Rattle.sheet.specs.Runs.{after_run}
 use Rattle.sheet.specs.declared.words.Call.{Call}
 use Rattle.sheet.specs.declared.words.Call.TheVariants.{Offer, StateGoal, Grant}
+use Rattle.sheet.specs.declared.words.Goal.{Goal}
 use Rattle.sheet.specs.declared.words.Report.{Report}
 use Rattle.sheet.specs.declared.words.State.TheVariants.{Found, NoneFound}
 use Rattle.worked_examples.specs.Examples.{most, parts}
@@ -24,8 +25,8 @@ three_sheet tell = after_run (opened parts most 3 tell) three_offers
 abbrev pub enough : ℕ
 enough = 15
 
-abbrev pub search_for : ℕ → ℕ → List Call
-search_for places share = StateGoal places share ∷ Grant enough ∷ []
+abbrev pub search_for : Goal → List Call
+search_for goal = StateGoal goal ∷ Grant enough ∷ []
 
 -- ---- the searches
 
@@ -35,19 +36,18 @@ found set cost chance openings = record { state = Found; best = Some (record { s
 abbrev pub none_found : ℕ → Report
 none_found openings = record { state = NoneFound; best = None; openings = openings }
 
--- a goal of so many parts, sought under a bound
+-- a goal, sought under a bound
 pub record Sought : Type 0 where
   pub tell : Asked → ℕ
-  pub places : ℕ
-  pub share : ℕ
+  pub goal : Goal
   pub expected : Report
 
 abbrev sought : (Asked → ℕ) → ℕ → ℕ → Report → Sought
-sought tell places share expected = record { tell = tell; places = places; share = share; expected = expected }
+sought tell places share expected = record { tell = tell; goal = goal_of places share; expected = expected }
 
 -- the report by the definitions
 abbrev pub reported : Sought → Report
-reported s = report_of (after_run (three_sheet s.tell) (search_for s.places s.share))
+reported s = report_of (after_run (three_sheet s.tell) (search_for s.goal))
 
 abbrev pub searches : List Sought
 searches =

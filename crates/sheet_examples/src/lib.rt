@@ -14,22 +14,43 @@ use bounds::{Depot, Plain, Whole};
 pub use rooms::Rooms;
 pub use runs::{Followed, follow};
 pub use searches::{open_three, seek};
-use sheet::Report;
+use sheet::{Goal, Report};
 
 // The number of searches in the list.
 pub const SEARCHES: usize = 6;
+
+const EIGHT_OF_10: Goal = Goal {
+    places: 1,
+    parts: 8,
+};
+
+const EIGHTY_TWO_OF_100: Goal = Goal {
+    places: 2,
+    parts: 82,
+};
+
+const JUST_WITHIN_REACH: Goal = Goal {
+    places: 3,
+    parts: 954,
+};
+
+const JUST_OUT_OF_REACH: Goal = Goal {
+    places: 3,
+    parts: 955,
+};
 
 // The code's reports of the searches of the list.
 pub fn reports(rooms: Rooms) -> [Report; SEARCHES]
     ensures value { result ≡ expected_reports }
     ensures hold { SearchesHold }
 {
+    let Rooms([first, second, third, fourth, fifth, sixth]) = rooms;
     [
-        seek_in(rooms.plain_8, Plain, 1, 8),
-        seek_in(rooms.plain_82, Plain, 2, 82),
-        seek_in(rooms.plain_954, Plain, 3, 954),
-        seek_in(rooms.plain_955, Plain, 3, 955),
-        seek_in(rooms.depot_8, Depot, 1, 8),
-        seek_in(rooms.whole_8, Whole, 1, 8),
+        seek_in(first, Plain, EIGHT_OF_10),
+        seek_in(second, Plain, EIGHTY_TWO_OF_100),
+        seek_in(third, Plain, JUST_WITHIN_REACH),
+        seek_in(fourth, Plain, JUST_OUT_OF_REACH),
+        seek_in(fifth, Depot, EIGHT_OF_10),
+        seek_in(sixth, Whole, EIGHT_OF_10),
     ]
 }

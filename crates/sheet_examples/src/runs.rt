@@ -3,7 +3,7 @@ ghost use Rattle.sheet_examples.specs.Following.{Follows};
 
 use bounds::Plain;
 use network::Refusal;
-use sheet::{Report, Sheet, SheetRoom};
+use sheet::{Goal, Report, Sheet, SheetRoom};
 
 // How two refused calls were answered, and the report at the end.
 #[derive(Drop)]
@@ -22,7 +22,10 @@ pub fn follow(room: SheetRoom) -> Followed
     };
     let _ = sheet.offer(0, 1, 9, 4);
     let _ = sheet.offer(1, 2, 9, 5);
-    let _ = sheet.state_goal(1, 8);
+    let _ = sheet.state_goal(Goal {
+        places: 1,
+        parts: 8,
+    });
     let _ = sheet.grant(3);
     let granted = sheet.grant(2_097_152);
     let struck = sheet.strike(2);

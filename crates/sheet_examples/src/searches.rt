@@ -6,7 +6,7 @@ ghost use Rattle.sheet.specs.Sheets.{model_of};
 ghost use Rattle.sheet_examples.specs.Searches.{search_for, three_sheet};
 
 use bounds::Bound;
-use sheet::{Report, Sheet, SheetRoom};
+use sheet::{Goal, Report, Sheet, SheetRoom};
 
 // As many openings as a search of three lanes can take.
 const ENOUGH: u32 = 15;
@@ -25,19 +25,19 @@ pub fn open_three<B: Bound + Drop>(room: SheetRoom, bound: B) -> Sheet<B>
 }
 
 // States a goal, grants enough openings to end, and tells the report.
-pub fn seek<B: Bound>(sheet: &mut Sheet<B>, places: u8, parts: u64) -> Report
-    ensures report { result ≡ report_of (after_run (model_of B.tells sheet.old) (search_for places parts)) }
-    ensures model { model_of B.tells sheet.new ≡ after_run (model_of B.tells sheet.old) (search_for places parts) }
+pub fn seek<B: Bound>(sheet: &mut Sheet<B>, goal: Goal) -> Report
+    ensures report { result ≡ report_of (after_run (model_of B.tells sheet.old) (search_for goal)) }
+    ensures model { model_of B.tells sheet.new ≡ after_run (model_of B.tells sheet.old) (search_for goal) }
 {
-    let _ = sheet.state_goal(places, parts);
+    let _ = sheet.state_goal(goal);
     let _ = sheet.grant(ENOUGH);
     sheet.report()
 }
 
 // The report of one search on a sheet of its own.
-pub fn seek_in<B: Bound + Drop>(room: SheetRoom, bound: B, places: u8, parts: u64) -> Report
-    ensures { result ≡ report_of (after_run (three_sheet (B.tells bound)) (search_for places parts)) }
+pub fn seek_in<B: Bound + Drop>(room: SheetRoom, bound: B, goal: Goal) -> Report
+    ensures { result ≡ report_of (after_run (three_sheet (B.tells bound)) (search_for goal)) }
 {
     let mut sheet = open_three(room, bound);
-    seek(&mut sheet, places, parts)
+    seek(&mut sheet, goal)
 }

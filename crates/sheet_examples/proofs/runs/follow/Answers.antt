@@ -1,6 +1,6 @@
 use Rattle.std.proofs.Common.{◌≡◌, ap, ◌∙◌}
 use Rattle.network.specs.Answers.{told}
-use Rattle.sheet.specs.Calls.{after, verdict}
+use Rattle.sheet.specs.Calls.{after, goal_of, verdict}
 use Rattle.sheet.specs.Models.{Model}
 use Rattle.sheet.specs.declared.words.Call.{Call}
 use Rattle.sheet.specs.declared.words.Call.TheVariants.{Offer, Strike, StateGoal, Grant}
@@ -15,7 +15,7 @@ pub returns : goal.returns
 returns c =
     let one = next _ _ _ (Offer 0 1 9 4) c.offer.ensures.model c.in-Ok.ensures.1 in
     let two = next _ _ _ (Offer 1 2 9 5) c.offer-2.ensures.model one in
-    let goal = next _ _ _ (StateGoal 1 8) c.state_goal.ensures.model two in
+    let goal = next _ _ _ (StateGoal (goal_of 1 8)) c.state_goal.ensures.model two in
     let three = next _ _ _ (Grant 3) c.grant.ensures.model goal in
     let large = next _ _ _ (Grant 2097152) c.grant-granted.ensures.model three in
     let strike = next _ _ _ (Strike 2) c.strike-struck.ensures.model large in

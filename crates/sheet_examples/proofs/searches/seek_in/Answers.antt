@@ -5,4 +5,4 @@ use Rattle.sheet_examples.specs.Searches.{search_for}
 use Rattle.sheet_examples.proofs.searches.seek_in.Goals as goal
 
 pub returns : goal.returns
-returns g c = c.seek.ensures.report ∙ ap (λ (m : Model). report_of (after_run m (search_for c.args.places c.args.parts))) c.open_three-sheet.ensures
+returns g c = c.seek.ensures.report ∙ ap (λ (m : Model). report_of (after_run m (search_for c.args.goal))) c.open_three-sheet.ensures
