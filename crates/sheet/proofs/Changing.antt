@@ -15,9 +15,10 @@ use Rattle.search.specs.Keeping.{all_given, best_fits}
 use Rattle.search.specs.Opening.{Progress}
 use Rattle.search.proofs.Stepping.{few_lanes, starts}
 use Rattle.sheet.specs.Calls.{Stepped, carried, changed, mark_call, verdict, with_lanes}
-use Rattle.sheet.specs.Goals.{least_for}
+use Rattle.sheet.specs.Goals.{goal_in, least_for, least_in}
 use Rattle.sheet.specs.Models.{Contents, Model, fresh, state_by}
 use Rattle.sheet.specs.Sheets.{contents_of}
+use Rattle.sheet.specs.declared.goals.Target.{Target}
 use Rattle.sheet.specs.declared.words.Call.{Call}
 use Rattle.sheet.specs.declared.words.Goal.{Goal}
 use Rattle.sheet.specs.declared.words.State.{State}
@@ -50,13 +51,13 @@ mark_carried m Standing lane = refl
 
 -- ---- what holds of a sheet's parts at all times
 
-abbrev pub Facts : Contents → Option Goal → ℕ → State → Progress → Type 0
-Facts c goal least state x =
+abbrev pub Facts : Contents → Option Target → State → Progress → Type 0
+Facts c target state x =
     record {
       given : all_given (length c.lanes) x.pending ≡ true;
       fits : best_fits (length c.lanes) c.most x.best ≡ true;
-      reached : least ≡ least_for c.parts c.most goal;
-      stands : state ≡ state_by goal x;
+      reached : least_in target ≡ least_for c.parts c.most (goal_in target);
+      stands : state ≡ state_by (goal_in target) x;
     }
 
 fresh_given : (ls : List Lane) → length ls ≤ 20 → (goal : Option Goal) → all_given (length ls) (fresh ls goal).pending ≡ true
@@ -67,9 +68,10 @@ fresh_fits : (ls : List Lane) (n K : ℕ) (goal : Option Goal) → best_fits n K
 fresh_fits ls n K None = refl
 fresh_fits ls n K (Some goal) = refl
 
-pub fresh_facts : (c : Contents) (goal : Option Goal) (least : ℕ) (state : State) (x : Progress) → length c.lanes ≤ 20 → least ≡ least_for c.parts c.most goal → x ≡ fresh c.lanes goal → state ≡ state_by goal (fresh c.lanes goal) → Facts c goal least state x
-fresh_facts c goal least state x few reached progress stands =
-    subst (Facts c goal least state) (sym progress) (record { given = fresh_given c.lanes few goal; fits = fresh_fits c.lanes (length c.lanes) c.most goal; reached = reached; stands = stands })
+pub fresh_facts : (c : Contents) (target : Option Target) (state : State) (x : Progress) → length c.lanes ≤ 20 → least_in target ≡ least_for c.parts c.most (goal_in target) → x ≡ fresh c.lanes (goal_in target) → state ≡ state_by (goal_in target) (fresh c.lanes (goal_in target)) → Facts c target state x
+fresh_facts c target state x few reached progress stands =
+    let goal = goal_in target in
+    subst (Facts c target state) (sym progress) (record { given = fresh_given c.lanes few goal; fits = fresh_fits c.lanes (length c.lanes) c.most goal; reached = reached; stands = stands })
 
 -- ---- other lanes in the network
 
@@ -87,14 +89,14 @@ module _ (before : Network) (v : Option Refusal) (ls : List Lane) (r : Result (U
       let lanes : lanes_of later ≡ ls = was.lanes ∙ cond-false _ _ _ (ap is_some (passed v tt tt (sym is ∙ was.answer))) in
       λ i. record { parts = (was.scale i).parts; most = (was.scale i).most; depots = was.depots i; lanes = lanes i }
 
-  module _ (goal : Option Goal) (least : ℕ) where
-    pub refused_facts : (state : State) (x : Progress) (e : Refusal) → r ≡ Err e → Facts (contents_of before) goal least state x → Facts (contents_of later) goal least state x
-    refused_facts state x e is facts = subst (λ (c : Contents). Facts c goal least state x) (sym (contents_kept e is)) facts
+  module _ (target : Option Target) where
+    pub refused_facts : (state : State) (x : Progress) (e : Refusal) → r ≡ Err e → Facts (contents_of before) target state x → Facts (contents_of later) target state x
+    refused_facts state x e is facts = subst (λ (c : Contents). Facts c target state x) (sym (contents_kept e is)) facts
 
-    pub changed_facts : (state : State) (x : Progress) → least ≡ least_for (parts_of before) (most_of before) goal → x ≡ fresh (lanes_of later) goal → state ≡ state_by goal (fresh (lanes_of later) goal) → Facts (contents_of later) goal least state x
+    pub changed_facts : (state : State) (x : Progress) → least_in target ≡ least_for (parts_of before) (most_of before) (goal_in target) → x ≡ fresh (lanes_of later) (goal_in target) → state ≡ state_by (goal_in target) (fresh (lanes_of later) (goal_in target)) → Facts (contents_of later) target state x
     changed_facts state x reached progress stands =
-        let still : least ≡ least_for (parts_of later) (most_of later) goal = reached ∙ sym (ap (λ s. least_for s.parts s.most goal) was.scale) in
-        fresh_facts (contents_of later) goal least state x (few_lanes later) still progress stands
+        let still : least_in target ≡ least_for (parts_of later) (most_of later) (goal_in target) = reached ∙ sym (ap (λ s. least_for s.parts s.most (goal_in target)) was.scale) in
+        fresh_facts (contents_of later) target state x (few_lanes later) still progress stands
 
   module _ (tell : Asked → ℕ) (goal : Option Goal) (x : Progress) (call : Call) (is_verdict : verdict (record { contents = contents_of before; tell = tell; goal = goal; progress = x }) call ≡ v) where
     pub refused_change : (answer : Result (Unit {0}) Refusal) (e : Refusal) → r ≡ Err e → answer ≡ Err e → Stepped (record { contents = contents_of before; tell = tell; goal = goal; progress = x }) call answer (record { contents = contents_of later; tell = tell; goal = goal; progress = x })

@@ -41,13 +41,6 @@ status_none (b ∷ bs) best is = absurd (omega (arith, ap status_place is))
 
 -- ---- what a state says of a goal
 
-pub has_goal : (goal : Option Goal) (x : Progress) (state : State) → state ≡ state_by goal x → (state ≡ Drafting → ⊥) → (g : Goal) × (goal ≡ Some g)
-has_goal None x state is not-drafting = absurd (not-drafting is)
-has_goal (Some g) x state is not-drafting = (g, refl)
-
-pub working_goal : (goal : Option Goal) (x : Progress) (state : State) → state ≡ state_by goal x → state ≡ Working → (g : Goal) × (goal ≡ Some g)
-working_goal goal x state is works = has_goal goal x state is (λ drafts. omega (arith, ap place (sym works ∙ drafts)))
-
 pub ended_goal : (goal : Option Goal) (x : Progress) (state : State) → state ≡ state_by goal x → (state ≡ Found) ⊎ (state ≡ NoneFound) → (g : Goal) × ((goal ≡ Some g) × (x.pending ≡ []))
 ended_goal None x state is ended = absurd (⊎_elim (λ e. omega (arith, ap place (sym e ∙ is))) (λ e. omega (arith, ap place (sym e ∙ is))) ended)
 ended_goal (Some g) x state is ended = (g, (refl, by_pending x.pending x.best (⊎_elim (λ e. omega (arith, ap place (sym e ∙ is))) (λ e. omega (arith, ap place (sym e ∙ is))) ended)))

@@ -10,9 +10,10 @@ use Rattle.search.specs.Opening.{Problem, Progress, open_many}
 use Rattle.search.proofs.Counting.{idle}
 use Rattle.search.proofs.Stepping.{Kept, few_lanes, fits_many, keeps_many}
 use Rattle.sheet.specs.Calls.{Stepped, carried, goal_missing, granted_by, size_refusal, verdict}
-use Rattle.sheet.specs.Goals.{least_chance, least_for}
+use Rattle.sheet.specs.Goals.{goal_in, least_chance, least_for, least_in}
 use Rattle.sheet.specs.Models.{Model, problem, searched_state, state_by, state_of}
 use Rattle.sheet.specs.Sheets.{contents_of}
+use Rattle.sheet.specs.declared.goals.Target.{Target}
 use Rattle.sheet.specs.declared.words.Call.{Call}
 use Rattle.sheet.specs.declared.words.Call.TheVariants.{Grant}
 use Rattle.sheet.specs.declared.words.Goal.{Goal}
@@ -40,23 +41,29 @@ searched network least tell =
       tell = tell;
     }
 
-module _ (network : Network) (tell : Asked → ℕ) (goal : Option Goal) (least : ℕ) (state : State) (x : Progress) (facts : Facts (contents_of network) goal least state x) (g : Goal) (stated : goal ≡ Some g) (openings : ℕ) where
-  least_is : least ≡ least_chance (parts_of network) (most_of network) g
-  least_is = facts.reached ∙ ap (least_for (parts_of network) (most_of network)) stated
+module _ (network : Network) (tell : Asked → ℕ) (target : Option Target) (state : State) (x : Progress) (facts : Facts (contents_of network) target state x) (t : Target) (is_target : target ≡ Some t) (openings : ℕ) where
+  abbrev goal : Option Goal
+  goal = goal_in target
+
+  stated : goal ≡ Some t.goal
+  stated = ap goal_in is_target
+
+  least_is : t.least ≡ least_chance (parts_of network) (most_of network) t.goal
+  least_is = sym (ap least_in is_target) ∙ facts.reached ∙ ap (least_for (parts_of network) (most_of network)) stated
 
   -- the code's problem is the sheet's
-  same_search : open_many (searched network least tell) openings x ≡ open_many (problem (contents_of network) tell g) openings x
+  same_search : open_many (searched network t.least tell) openings x ≡ open_many (problem (contents_of network) tell t.goal) openings x
   same_search = ap (λ (n : ℕ). open_many (searched network n tell) openings x) least_is
 
-  pub granted_step : (y : Progress) → size_refusal openings ≡ None → y ≡ open_many (searched network least tell) openings x → Stepped (record { contents = contents_of network; tell = tell; goal = goal; progress = x }) (Grant openings) (Ok tt) (record { contents = contents_of network; tell = tell; goal = goal; progress = y })
+  pub granted_step : (y : Progress) → size_refusal openings ≡ None → y ≡ open_many (searched network t.least tell) openings x → Stepped (record { contents = contents_of network; tell = tell; goal = goal; progress = x }) (Grant openings) (Ok tt) (record { contents = contents_of network; tell = tell; goal = goal; progress = y })
   granted_step y fine is =
       let m : Model = record { contents = contents_of network; tell = tell; goal = goal; progress = x } in
-      accepted_step m (Grant openings) _ (grant_verdict m g stated openings ∙ fine)
+      accepted_step m (Grant openings) _ (grant_verdict m t.goal stated openings ∙ fine)
       (ap (λ (z : Progress). record { contents = contents_of network; tell = tell; goal = goal; progress = z }) (is ∙ same_search) ∙ sym (ap (λ (q : Option Goal). granted_by q m openings) stated))
 
-  pub granted_facts : (later : State) (y : Progress) → shallow x.pending ≡ true → x.openings + all_work x.pending ≤ most_openings → y ≡ open_many (searched network least tell) openings x → later ≡ searched_state y.pending y.best → Facts (contents_of network) goal least later y
+  pub granted_facts : (later : State) (y : Progress) → shallow x.pending ≡ true → x.openings + all_work x.pending ≤ most_openings → y ≡ open_many (searched network t.least tell) openings x → later ≡ searched_state y.pending y.best → Facts (contents_of network) target later y
   granted_facts later y low counted is stands =
-      let p = searched network least tell in
+      let p = searched network t.least tell in
       let n = length (lanes_of network) in
       let kept : Kept n x = record { given = facts.given; low = low; counted = counted } in
       record {

@@ -2,6 +2,7 @@
 use Rattle.std.specs.Prelude.{ℕ, ◌-◌, ◌*◌, ◌^◌, cond, ◌||◌, Some, None, Option, ◌==◌, nat_lt}
 use Rattle.network.specs.declared.refusals.Refusal.{Refusal}
 use Rattle.network.specs.declared.refusals.Refusal.TheVariants.{PartsOutOfRange, PlacesOutOfRange}
+use Rattle.sheet.specs.declared.goals.Target.{Target}
 use Rattle.sheet.specs.declared.words.Goal.{Goal}
 
 -- r is outside 1 to K, or g is outside 1 to S^r
@@ -14,6 +15,18 @@ goal_refusal S K goal =
 abbrev pub least_chance : ℕ → ℕ → Goal → ℕ
 least_chance S K goal = goal.parts * S ^ (K - goal.places)
 
+abbrev pub target_for : ℕ → ℕ → Goal → Target
+target_for S K goal = record { goal = goal; least = least_chance S K goal }
+
 abbrev pub least_for : ℕ → ℕ → Option Goal → ℕ
 least_for S K None = 0
 least_for S K (Some goal) = least_chance S K goal
+
+-- the goal that a sheet has, and the least chance that it keeps beside it
+abbrev pub goal_in : Option Target → Option Goal
+goal_in None = None
+goal_in (Some target) = Some target.goal
+
+abbrev pub least_in : Option Target → ℕ
+least_in None = 0
+least_in (Some target) = target.least

@@ -3,7 +3,7 @@ ghost use Rattle.std.specs.Prelude.{◌≡◌, true, length};
 ghost use Rattle.network.specs.Networks.{lanes_of, most_of, parts_of};
 ghost use Rattle.search.specs.Keeping.{all_given, best_fits};
 ghost use Rattle.search.specs.Searching.{progress_of};
-ghost use Rattle.sheet.specs.Goals.{least_for};
+ghost use Rattle.sheet.specs.Goals.{goal_in, least_for, least_in};
 ghost use Rattle.sheet.specs.Models.{state_by};
 
 mod changes;
@@ -13,7 +13,8 @@ mod opening;
 mod questions;
 mod reports;
 
-use crate::words::{Goal, State};
+use crate::goals::Target;
+use crate::words::State;
 use network::{LaneRoom, Network};
 use search::{Search, SearchRoom};
 
@@ -29,12 +30,11 @@ pub struct SheetRoom {
 pub struct Sheet<B> {
     network: Network,
     bound: B,
-    goal: Option<Goal>,
-    least: u64,
+    target: Option<Target>,
     state: State,
     seeking: Search,
     ghost given: { all_given (length (lanes_of network)) (progress_of seeking).pending ≡ true },
     ghost fits: { best_fits (length (lanes_of network)) (most_of network) (progress_of seeking).best ≡ true },
-    ghost reached: { least ≡ least_for (parts_of network) (most_of network) goal },
-    ghost stands: { state ≡ state_by goal (progress_of seeking) },
+    ghost reached: { least_in target ≡ least_for (parts_of network) (most_of network) (goal_in target) },
+    ghost stands: { state ≡ state_by (goal_in target) (progress_of seeking) },
 }

@@ -3,11 +3,12 @@ ghost use Rattle.std.specs.Prelude.{◌≡◌};
 ghost use Rattle.network.specs.Networks.{lanes_of};
 ghost use Rattle.search.specs.Searching.{progress_of};
 ghost use Rattle.sheet.specs.Calls.{Stepped, mark_call};
+ghost use Rattle.sheet.specs.Goals.{goal_in};
 ghost use Rattle.sheet.specs.Models.{fresh, state_by};
 ghost use Rattle.sheet.specs.Sheets.{model_of};
 ghost use Rattle.sheet.specs.declared.words.Call.TheVariants.{Offer, Reprice, StateGoal};
 
-use crate::goals::find_least;
+use crate::goals::Target;
 use crate::sheets::Sheet;
 use crate::words::{Goal, State};
 use bounds::Bound;
@@ -15,11 +16,11 @@ use network::{Lane, Mark, Network, Refusal};
 use search::Search;
 
 // The search anew, as a change leaves it, and the state that it is in.
-fn begin(seeking: &mut Search, network: &Network, goal: Option<Goal>) -> State
-    ensures progress { progress_of seeking.new ≡ fresh (lanes_of network.now) goal }
-    ensures state { result ≡ state_by goal (fresh (lanes_of network.now) goal) }
+fn begin(seeking: &mut Search, network: &Network, target: Option<Target>) -> State
+    ensures progress { progress_of seeking.new ≡ fresh (lanes_of network.now) (goal_in target) }
+    ensures state { result ≡ state_by (goal_in target) (fresh (lanes_of network.now) (goal_in target)) }
 {
-    match goal {
+    match target {
         Some(_) => {
             seeking.restart(network);
             State::Working
@@ -49,7 +50,7 @@ impl<B: Bound> Sheet<B> {
             mark: Mark::Standing,
         };
         self.network.offer(lane)?;
-        self.state = begin(&mut self.seeking, &self.network, self.goal);
+        self.state = begin(&mut self.seeking, &self.network, self.target);
         Ok(())
     }
 
@@ -57,7 +58,7 @@ impl<B: Bound> Sheet<B> {
         ensures { Stepped (model_of B.tells self.old) (mark_call mark lane) result (model_of B.tells self.new) }
     {
         self.network.set_mark(lane, mark)?;
-        self.state = begin(&mut self.seeking, &self.network, self.goal);
+        self.state = begin(&mut self.seeking, &self.network, self.target);
         Ok(())
     }
 
@@ -65,16 +66,15 @@ impl<B: Bound> Sheet<B> {
         ensures { Stepped (model_of B.tells self.old) (Reprice lane chance cost) result (model_of B.tells self.new) }
     {
         self.network.reprice(lane, chance, cost)?;
-        self.state = begin(&mut self.seeking, &self.network, self.goal);
+        self.state = begin(&mut self.seeking, &self.network, self.target);
         Ok(())
     }
 
     pub(crate) fn take_goal(&mut self, goal: Goal) -> Result<(), Refusal>
         ensures { Stepped (model_of B.tells self.old) (StateGoal goal) result (model_of B.tells self.new) }
     {
-        self.least = find_least(goal, self.network.scale())?;
-        self.goal = Some(goal);
-        self.state = begin(&mut self.seeking, &self.network, self.goal);
+        self.target = Some(Target::find(goal, self.network.scale())?);
+        self.state = begin(&mut self.seeking, &self.network, self.target);
         Ok(())
     }
 }

@@ -40,10 +40,14 @@ impl<B: Bound> Sheet<B> {
         ensures { Stepped (model_of B.tells self.old) (Grant openings) result (model_of B.tells self.new) }
     {
         check_grant(openings)?;
+        let Some(target) = self.target else {
+            // a sheet that works has a goal
+            unreachable()
+        };
         let problem = Problem {
             network: &self.network,
             bound: &self.bound,
-            least: self.least,
+            least: target.least,
         };
         self.seeking.open_many(&problem, openings);
         self.state = find_state(&self.seeking);

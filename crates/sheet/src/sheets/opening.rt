@@ -37,8 +37,7 @@ impl<B: Bound + Drop> Sheet<B> {
         Ok(Sheet {
             network,
             bound,
-            goal: None,
-            least: 0,
+            target: None,
             state: State::Drafting,
             seeking: Search::new(branches),
         })

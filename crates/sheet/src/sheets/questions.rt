@@ -5,6 +5,7 @@ ghost use Rattle.network.specs.Networks.{depots_of, lanes_of, most_of, parts_of}
 ghost use Rattle.network.specs.Sets.{set_cost, set_refusal, standing_lanes};
 ghost use Rattle.reliability.specs.Joining.{CheapestJoining, joining_cost};
 ghost use Rattle.reliability.specs.Questions.{Chance, Connects, Totalled};
+ghost use Rattle.sheet.specs.Goals.{goal_in};
 
 use crate::sheets::Sheet;
 use crate::words::Goal;
@@ -20,9 +21,9 @@ impl<B> Sheet<B> {
     }
 
     pub fn goal(&self) -> Option<Goal>
-        ensures { result ≡ self.now.goal }
+        ensures { result ≡ goal_in self.now.target }
     {
-        self.goal
+        self.target.map(|target| target.goal)
     }
 
     pub fn cost(&self, set: u32) -> Result<u32, Refusal>

@@ -1,6 +1,6 @@
 use Rattle.std.proofs.Common.{◌≡◌, ℕ, ◌-◌, ◌*◌, ◌^◌, ◌≤◌, ap, ◌∙◌, ap₂, arith}
 use Rattle.sheet.proofs.Powers.{goal_within, power_within}
-use Rattle.sheet.proofs.goals.find_least.Goals as goal
+use Rattle.sheet.proofs.goals.Target.find.Goals as goal
 
 pub pow-requires : goal.pow-requires
 pow-requires c =
@@ -19,8 +19,8 @@ pow-requires-2 c =
     let is : c.from-base.result ^ (c.from.result - c.from-places.result) ≡ scale.parts ^ unused = ap₂ ◌^◌ (c.from-base.ensures ∙ c.parts.ensures) exponent in
     omega (arith, is, power_within scale.parts scale.most unused scale.positive scale.rule low)
 
-pub overflow_mul-result : goal.overflow_mul-result
-overflow_mul-result c =
+pub overflow_mul-least : goal.overflow_mul-least
+overflow_mul-least c =
     let scale = c.args.scale in
     let goal = c.args.goal in
     let low : goal.places ≤ scale.most = omega (arith, c.if-goal-most.false, c.most.ensures) in
