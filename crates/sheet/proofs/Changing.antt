@@ -1,20 +1,16 @@
 -- What a change of the lanes leaves of a sheet, and what holds of its parts afterwards.
-use Rattle.std.proofs.Common.{◌≡◌, ℕ, ◌≤◌, true, List, [], ◌∷◌, ◌++◌, length, is_some, Some, None, Ok, Err, Option, Result, sym, refl, ap, ◌∙◌, subst}
-use Rattle.std.proofs.lemmas.Bool.{cond-false, cond-true}
+use Rattle.std.proofs.Common.{◌≡◌, ℕ, ◌≤◌, true, List, length, is_some, Some, None, Ok, Err, Option, Result, sym, refl, ap, ◌∙◌, subst}
+use Rattle.std.proofs.lemmas.Bool.{cond-false}
 use Rattle.network.specs.Answers.{told}
-use Rattle.network.specs.Changes.{mark_refusal, marked_at}
-use Rattle.network.specs.Networks.{Added, Changed, add_refusal, lanes_of, most_of, parts_of}
+use Rattle.network.specs.Networks.{lanes_of, most_of, parts_of}
 use Rattle.network.specs.declared.lanes.Lane.{Lane}
-use Rattle.network.specs.declared.lanes.Mark.{Mark}
-use Rattle.network.specs.declared.lanes.Mark.TheVariants.{Struck, Standing}
 use Rattle.network.specs.declared.networks.Network.{Network}
 use Rattle.network.specs.declared.refusals.Refusal.{Refusal}
-use Rattle.network.proofs.Offers.{passed, refused}
 use Rattle.bounds.specs.Questions.{Asked}
 use Rattle.search.specs.Keeping.{all_given, best_fits}
 use Rattle.search.specs.Opening.{Progress}
 use Rattle.search.proofs.Stepping.{few_lanes, starts}
-use Rattle.sheet.specs.Calls.{Stepped, carried, changed, mark_call, verdict, with_lanes}
+use Rattle.sheet.specs.Calls.{Keeps, Stepped, carried, changed, renewed, verdict, with_lanes}
 use Rattle.sheet.specs.Goals.{goal_in, least_for, least_in}
 use Rattle.sheet.specs.Models.{Contents, Model, fresh, state_by}
 use Rattle.sheet.specs.Sheets.{contents_of}
@@ -25,29 +21,12 @@ use Rattle.sheet.specs.declared.words.State.{State}
 
 -- ---- one step
 
-pub refused_step : (m : Model) (call : Call) (r : Result (Unit {0}) Refusal) (later : Model) (e : Refusal) → verdict m call ≡ Some e → r ≡ Err e → later ≡ m → Stepped m call r later
-refused_step m call r later e verdict-is answer same =
-    record {
-      answer = answer ∙ sym (ap (λ v. told v tt) verdict-is);
-      model = same ∙ sym (cond-true (is_some (verdict m call)) m (carried m call) (ap is_some verdict-is));
-    }
-
 pub accepted_step : (m : Model) (call : Call) (later : Model) → verdict m call ≡ None → later ≡ carried m call → Stepped m call (Ok tt) later
 accepted_step m call later verdict-is done =
     record {
       answer = sym (ap (λ v. told v tt) verdict-is);
       model = done ∙ sym (cond-false (is_some (verdict m call)) m (carried m call) (ap is_some verdict-is));
     }
-
--- ---- striking and restoring as one
-
-pub mark_verdict : (m : Model) (mark : Mark) (lane : ℕ) → verdict m (mark_call mark lane) ≡ mark_refusal m.contents.lanes lane mark
-mark_verdict m Struck lane = refl
-mark_verdict m Standing lane = refl
-
-pub mark_carried : (m : Model) (mark : Mark) (lane : ℕ) → carried m (mark_call mark lane) ≡ changed m (marked_at m.contents.lanes lane mark) m.goal
-mark_carried m Struck lane = refl
-mark_carried m Standing lane = refl
 
 -- ---- what holds of a sheet's parts at all times
 
@@ -73,21 +52,16 @@ fresh_facts c target state x few reached progress stands =
     let goal = goal_in target in
     subst (Facts c target state) (sym progress) (record { given = fresh_given c.lanes few goal; fits = fresh_fits c.lanes (length c.lanes) c.most goal; reached = reached; stands = stands })
 
--- ---- other lanes in the network
+-- ---- a step on the network
 
-pub as_changed : {before later : Network} {l : Lane} {r : Result (Unit {0}) Refusal} → Added before l r later → Changed before (add_refusal before l) (lanes_of before ++ (l ∷ [])) r later
-as_changed added = record { answer = added.answer; scale = added.scale; depots = added.depots; lanes = added.lanes }
-
-module _ (before : Network) (v : Option Refusal) (ls : List Lane) (r : Result (Unit {0}) Refusal) (later : Network) (was : Changed before v ls r later) where
+module _ (before : Network) (r : Result (Unit {0}) Refusal) (later : Network) (kept : Keeps before r later) where
   contents_kept : (e : Refusal) → r ≡ Err e → contents_of later ≡ contents_of before
   contents_kept e is =
-      let lanes : lanes_of later ≡ lanes_of before = was.lanes ∙ cond-true _ _ _ (ap is_some (refused v e tt (sym is ∙ was.answer))) in
-      λ i. record { parts = (was.scale i).parts; most = (was.scale i).most; depots = was.depots i; lanes = lanes i }
+      λ i. record { parts = (kept.scale i).parts; most = (kept.scale i).most; depots = kept.depots i; lanes = kept.lanes e is i }
 
-  contents_changed : r ≡ Ok tt → contents_of later ≡ with_lanes (contents_of before) ls
-  contents_changed is =
-      let lanes : lanes_of later ≡ ls = was.lanes ∙ cond-false _ _ _ (ap is_some (passed v tt tt (sym is ∙ was.answer))) in
-      λ i. record { parts = (was.scale i).parts; most = (was.scale i).most; depots = was.depots i; lanes = lanes i }
+  contents_changed : contents_of later ≡ with_lanes (contents_of before) (lanes_of later)
+  contents_changed =
+      λ i. record { parts = (kept.scale i).parts; most = (kept.scale i).most; depots = kept.depots i; lanes = lanes_of later }
 
   module _ (target : Option Target) where
     pub refused_facts : (state : State) (x : Progress) (e : Refusal) → r ≡ Err e → Facts (contents_of before) target state x → Facts (contents_of later) target state x
@@ -95,16 +69,16 @@ module _ (before : Network) (v : Option Refusal) (ls : List Lane) (r : Result (U
 
     pub changed_facts : (state : State) (x : Progress) → least_in target ≡ least_for (parts_of before) (most_of before) (goal_in target) → x ≡ fresh (lanes_of later) (goal_in target) → state ≡ state_by (goal_in target) (fresh (lanes_of later) (goal_in target)) → Facts (contents_of later) target state x
     changed_facts state x reached progress stands =
-        let still : least_in target ≡ least_for (parts_of later) (most_of later) (goal_in target) = reached ∙ sym (ap (λ s. least_for s.parts s.most (goal_in target)) was.scale) in
+        let still : least_in target ≡ least_for (parts_of later) (most_of later) (goal_in target) = reached ∙ sym (ap (λ s. least_for s.parts s.most (goal_in target)) kept.scale) in
         fresh_facts (contents_of later) target state x (few_lanes later) still progress stands
 
-  module _ (tell : Asked → ℕ) (goal : Option Goal) (x : Progress) (call : Call) (is_verdict : verdict (record { contents = contents_of before; tell = tell; goal = goal; progress = x }) call ≡ v) where
-    pub refused_change : (answer : Result (Unit {0}) Refusal) (e : Refusal) → r ≡ Err e → answer ≡ Err e → Stepped (record { contents = contents_of before; tell = tell; goal = goal; progress = x }) call answer (record { contents = contents_of later; tell = tell; goal = goal; progress = x })
-    refused_change answer e is answered =
-        refused_step _ call answer _ e (is_verdict ∙ refused v e tt (sym is ∙ was.answer)) answered (ap (λ (c : Contents). record { contents = c; tell = tell; goal = goal; progress = x }) (contents_kept e is))
+  module _ (tell : Asked → ℕ) (goal : Option Goal) (x : Progress) where
+    abbrev was : Model
+    was = record { contents = contents_of before; tell = tell; goal = goal; progress = x }
 
-    pub accepted_change : (y : Progress) → r ≡ Ok tt → carried (record { contents = contents_of before; tell = tell; goal = goal; progress = x }) call ≡ changed (record { contents = contents_of before; tell = tell; goal = goal; progress = x }) ls goal → y ≡ fresh (lanes_of later) goal → Stepped (record { contents = contents_of before; tell = tell; goal = goal; progress = x }) call (Ok tt) (record { contents = contents_of later; tell = tell; goal = goal; progress = y })
-    accepted_change y is done progress =
-        let contents = contents_changed is in
-        let anew : y ≡ fresh ls goal = progress ∙ ap (λ (c : Contents). fresh c.lanes goal) contents in
-        accepted_step _ call _ (is_verdict ∙ passed v tt tt (sym is ∙ was.answer)) ((λ i. record { contents = contents i; tell = tell; goal = goal; progress = anew i }) ∙ sym done)
+    pub renewed_refused : (answer : Result (Unit {0}) Refusal) (e : Refusal) → r ≡ Err e → answer ≡ Err e → record { contents = contents_of later; tell = tell; goal = goal; progress = x } ≡ renewed answer was later
+    renewed_refused answer e is answered =
+        ap (λ (c : Contents). record { contents = c; tell = tell; goal = goal; progress = x }) (contents_kept e is) ∙ sym (ap (λ s. renewed s was later) answered)
+
+    pub renewed_done : (y : Progress) → y ≡ fresh (lanes_of later) goal → record { contents = contents_of later; tell = tell; goal = goal; progress = y } ≡ changed was (lanes_of later) goal
+    renewed_done y anew = λ i. record { contents = contents_changed i; tell = tell; goal = goal; progress = anew i }

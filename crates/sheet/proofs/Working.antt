@@ -1,5 +1,5 @@
 -- What a grant leaves of a sheet that works, and of one that has ended.
-use Rattle.std.proofs.Common.{◌≡◌, ℕ, ◌+◌, ◌≤◌, Bool, true, false, cond, ◌⊎◌, [], length, is_some, Some, None, Ok, Err, Option, Result, sym, refl, ap, ◌∙◌, subst}
+use Rattle.std.proofs.Common.{◌≡◌, ℕ, ◌+◌, ◌≤◌, Bool, true, false, cond, ◌⊎◌, [], length, is_some, Some, None, Ok, Option, Result, sym, refl, ap, ◌∙◌, subst}
 use Rattle.network.specs.Answers.{first_of, told}
 use Rattle.network.specs.Networks.{depots_of, lanes_of, most_of, parts_of}
 use Rattle.network.specs.declared.networks.Network.{Network}
@@ -19,15 +19,12 @@ use Rattle.sheet.specs.declared.words.Call.TheVariants.{Grant}
 use Rattle.sheet.specs.declared.words.Goal.{Goal}
 use Rattle.sheet.specs.declared.words.State.{State}
 use Rattle.sheet.specs.declared.words.State.TheVariants.{Found, NoneFound}
-use Rattle.sheet.proofs.Changing.{Facts, accepted_step, refused_step}
+use Rattle.sheet.proofs.Changing.{Facts, accepted_step}
 use Rattle.sheet.proofs.States.{ended_goal}
 
 -- with a goal only the size of a grant is checked
 grant_verdict : (m : Model) (g : Goal) → m.goal ≡ Some g → (openings : ℕ) → verdict m (Grant openings) ≡ size_refusal openings
 grant_verdict m g stated openings = ap (λ (q : Option Goal). first_of (goal_missing q) (size_refusal openings)) stated
-
-pub refused_grant : (m : Model) (g : Goal) → m.goal ≡ Some g → (openings : ℕ) (r : Result (Unit {0}) Refusal) (e : Refusal) → size_refusal openings ≡ Some e → r ≡ Err e → Stepped m (Grant openings) r m
-refused_grant m g stated openings r e too_large answer = refused_step m (Grant openings) r m e (grant_verdict m g stated openings ∙ too_large) answer refl
 
 -- what the code searches
 abbrev searched : Network → ℕ → (Asked → ℕ) → Problem

@@ -1,12 +1,14 @@
 -- The calls that change a sheet: which are refused, and the sheet after each. Every call's promise is one step of this relation.
-use Rattle.std.specs.Prelude.{◌≡◌, ℕ, cond, List, [], ◌∷◌, ◌++◌, length, is_some, Some, None, Option, Result, nat_lt}
+use Rattle.std.specs.Prelude.{◌≡◌, ℕ, cond, List, [], ◌∷◌, ◌++◌, length, is_some, Some, None, Ok, Err, Option, Result, nat_lt}
 use Rattle.network.specs.Answers.{first_of, told}
 use Rattle.network.specs.Changes.{mark_refusal, marked_at, reprice_refusal, repriced_at}
 use Rattle.network.specs.Lanes.{depots_refusal, offer_refusal}
+use Rattle.network.specs.Networks.{depots_of, lanes_of}
 use Rattle.network.specs.Scales.{scale_refusal}
 use Rattle.network.specs.declared.lanes.Lane.{Lane}
 use Rattle.network.specs.declared.lanes.Mark.{Mark}
 use Rattle.network.specs.declared.lanes.Mark.TheVariants.{Struck, Standing}
+use Rattle.network.specs.declared.networks.Network.{Network}
 use Rattle.network.specs.declared.refusals.Refusal.{Refusal}
 use Rattle.network.specs.declared.refusals.Refusal.TheVariants.{GrantTooLarge, NoGoal}
 use Rattle.bounds.specs.Questions.{Asked}
@@ -66,6 +68,17 @@ with_lanes c ls = record { parts = c.parts; most = c.most; depots = c.depots; la
 -- a change: these lanes and this goal from now on, and the search anew
 abbrev pub changed : Model → List Lane → Option Goal → Model
 changed m ls goal = record { contents = with_lanes m.contents ls; tell = m.tell; goal = goal; progress = fresh ls goal }
+
+-- a step on the network keeps its scale and depots, and one that is refused its lanes too
+pub record Keeps (before : Network) (r : Result (Unit {0}) Refusal) (later : Network) : Type 0 where
+  pub scale : later.scale ≡ before.scale
+  pub depots : depots_of later ≡ depots_of before
+  pub lanes : (refusal : Refusal) → r ≡ Err refusal → lanes_of later ≡ lanes_of before
+
+-- the sheet after such a step: a change to the network's lanes, unless it was refused
+abbrev pub renewed : Result (Unit {0}) Refusal → Model → Network → Model
+renewed (Ok done) m network = changed m (lanes_of network) m.goal
+renewed (Err refusal) m network = m
 
 -- a grant makes openings until so many are made or none is pending
 abbrev pub granted_by : Option Goal → Model → ℕ → Model
