@@ -1,8 +1,8 @@
 -- One opening, as the code makes it: what is decided of the newest branch is applied to the rest.
-use Rattle.std.proofs.Common.{◌≡◌, ℕ, zero, suc, ◌+◌, ◌-◌, ◌^◌, ◌<◌, ◌≤◌, Bool, true, false, cond, ◌&&◌, ◌⊎◌, eqb, List, [], ◌∷◌, ◌++◌, reverse, length, Some, Option, sym, refl, ap, ◌∙◌, subst, ⊎_elim, arith, pow_mono}
+use Rattle.std.proofs.Common.{◌≡◌, ℕ, zero, suc, ◌+◌, ◌-◌, ◌^◌, ◌<◌, ◌≤◌, Bool, true, false, cond, ◌&&◌, ◌⊎◌, eqb, List, [], ◌∷◌, ◌++◌, reverse, length, vec_items, Some, Option, sym, refl, ap, ◌∙◌, subst, ⊎_elim, arith, pow_mono}
 use lib.Count.{ones, ones-le}
 use Rattle.std.proofs.lemmas.List.{length-reverse, reverse-append}
-use Rattle.std.proofs.lemmas.Bool.{and_from, and_parts, eqb-false, leb-true, le-leb, lt-ltb, ltb-false, ltb-true, ne_eqb, or_parts}
+use Rattle.std.proofs.lemmas.Bool.{false≢true, and_from, and_parts, eqb-false, leb-true, le-leb, lt-ltb, ltb-false, ltb-true, or_parts}
 use Rattle.search.proofs.Counting.{idle, less_work, many_sum}
 use Rattle.search.proofs.Tops.{Top, ones_rest, top_of}
 use Rattle.network.specs.Networks.{lanes_of}
@@ -13,7 +13,8 @@ use Rattle.network.proofs.Sets.{standing_below}
 use Rattle.search.specs.Deciding.{decided}
 use Rattle.search.specs.Keeping.{all_given, all_work, best_fits, most_openings, most_pending, shallow}
 use Rattle.search.specs.Opening.{Problem, Progress, dropped, highest, opened, open_from, open_many, open_one, reaches, start_over, too_dear, with_lane, without}
-use Rattle.search.specs.Searching.{is_ended}
+use Rattle.search.specs.Searching.{Held, is_ended, progress_of}
+use Rattle.search.specs.declared.searching.Search.TheInside.{Inside}
 use Rattle.search.specs.declared.branches.Branch.{Branch}
 use Rattle.search.specs.declared.branches.Opening.{Opening}
 use Rattle.search.specs.declared.branches.Opening.TheVariants.{Dropped, Missed, Reached, Split}
@@ -33,24 +34,6 @@ applied_opened p best b rest made = by_case (dropped p best b) (eqb b.undecided 
     by_case false true true = refl
     by_case false true false = refl
     by_case false false reach = refl
-
--- only a branch with undecided lanes is split
-abbrev splits : Opening → ℕ
-splits Dropped = 0
-splits Missed = 0
-splits Reached = 0
-splits (Split one two) = 1
-
-pub split_some : (p : Problem) (best : Option ℕ) (b : Branch) (one two : Branch) → Split one two ≡ decided p best b → 0 < b.undecided
-split_some p best b one two is =
-    let differ = eqb-false b.undecided 0 (by_case (dropped p best b) (eqb b.undecided 0) (reaches p b.picked) (ap splits is)) in
-    omega arith
-  where
-    by_case : (drop leaf reach : Bool) → 1 ≡ splits (cond drop Dropped (cond leaf (cond reach Reached Missed) (Split (without b) (with_lane b)))) → leaf ≡ false
-    by_case true leaf reach e = absurd (omega arith)
-    by_case false true true e = absurd (omega arith)
-    by_case false true false e = absurd (omega arith)
-    by_case false false reach e = refl
 
 -- the newest branch is the last of the code's list
 pub newest : (items rest : List Branch) (b : Branch) → items ≡ rest ++ (b ∷ []) → reverse items ≡ b ∷ reverse rest
@@ -98,12 +81,6 @@ module _ (n : ℕ) (few : n ≤ 20) (b : Branch) (rest : List Branch) (given : a
       let two : length rest + 1 + left ≤ most_pending = omega (arith, depth, ones_rest b.undecided above) in
       and_from _ _ (le-leb _ _ one) (and_from _ _ (le-leb _ _ two) (and_parts _ _ low).1)
 
-  -- a branch that is split has room for two
-  pub room_for_two : shallow (b ∷ rest) ≡ true → 0 < b.undecided → length rest + 2 ≤ most_pending
-  room_for_two low some =
-      let depth : length rest + 1 + ones b.undecided ≤ most_pending = leb-true _ _ (and_parts _ _ low).0 in
-      omega (arith, depth, ones_rest b.undecided (given_top n b few inside some))
-
   takes_work : (drop leaf : Bool) → eqb b.undecided 0 ≡ leaf → all_work (cond drop rest (cond leaf rest (without b ∷ (with_lane b ∷ rest)))) + 1 ≤ all_work (b ∷ rest)
   takes_work drop leaf is = less_work b rest (given_top n b few inside) drop leaf is
 
@@ -112,6 +89,14 @@ pub record Kept (n : ℕ) (x : Progress) : Type 0 where
   pub given : all_given n x.pending ≡ true
   pub low : shallow x.pending ≡ true
   pub counted : x.openings + all_work x.pending ≤ most_openings
+
+pub given_from : (p : Problem) (n : ℕ) → n ≤ 20 → (bs : List Branch) (best : Option ℕ) (made : ℕ) → all_given n bs ≡ true → all_given n (open_from p bs best made).pending ≡ true
+given_from p n few [] best made given = given
+given_from p n few (b ∷ rest) best made given = keeps_given n few b rest given (dropped p best b) (eqb b.undecided 0) refl
+
+pub given_many : (p : Problem) (n : ℕ) → n ≤ 20 → (w : ℕ) (x : Progress) → all_given n x.pending ≡ true → all_given n (open_many p w x).pending ≡ true
+given_many p n few zero x given = given
+given_many p n few (suc w) x given = given_many p n few w (open_one p x) (given_from p n few x.pending x.best x.openings given)
 
 pub keeps : (p : Problem) (n : ℕ) → n ≤ 20 → (bs : List Branch) (best : Option ℕ) (made : ℕ) → Kept n (record { pending = bs; best = best; openings = made }) → Kept n (open_from p bs best made)
 keeps p n few [] best made kept = record { given = kept.given; low = kept.low; counted = kept.counted }
@@ -152,9 +137,10 @@ fits_many p n few (suc w) x kept fits =
 -- ---- one opening on the code's own parts
 
 -- what was decided of the newest branch, applied, keeps what an opening keeps
-pub keeps_led : (p : Problem) (n : ℕ) → n ≤ 20 → (best : Option ℕ) (b : Branch) (items rest : List Branch) (made : ℕ) (o : Opening) → o ≡ decided p best b → items ≡ rest ++ (b ∷ []) → Kept n (record { pending = reverse items; best = best; openings = made }) → Kept n (applied o b (reverse rest) best made)
-keeps_led p n few best b items rest made o is last kept =
-    subst (Kept n) (sym (led p best b items rest made o is last)) (keeps p n few (reverse items) best made kept)
+pub keeps_led : (p : Problem) (n : ℕ) → n ≤ 20 → (parts : Inside) (x : Progress) → progress_of parts ≡ x → all_given n x.pending ≡ true → Held parts → (b : Branch) (rest : List Branch) → vec_items parts.pending ≡ rest ++ (b ∷ []) → (o : Opening) → o ≡ decided p parts.best b → Kept n (applied o b (reverse rest) parts.best parts.openings)
+keeps_led p n few parts x is_x given held b rest last o is =
+    let before : Kept n (progress_of parts) = record { given = ap (λ (y : Progress). all_given n y.pending) is_x ∙ given; low = held.shallow; counted = held.counted } in
+    subst (Kept n) (sym (led p parts.best b (vec_items parts.pending) rest parts.openings o is last)) (keeps p n few (reverse (vec_items parts.pending)) parts.best parts.openings before)
 
 -- a branch that is dropped, or misses the goal, leaves the rest
 pub passed_over : (o : Opening) → (o ≡ Dropped) ⊎ (o ≡ Missed) → (b : Branch) (rest : List Branch) (best : Option ℕ) (made : ℕ) → applied o b rest best made ≡ record { pending = rest; best = best; openings = made + 1 }
@@ -168,48 +154,32 @@ given_newest n items rest b last given = ltb-true _ _ (and_parts _ _ (ap (all_gi
 pub newest_two : (items middle rest : List Branch) (one two : Branch) → items ≡ middle ++ (one ∷ []) → middle ≡ rest ++ (two ∷ []) → reverse items ≡ one ∷ (two ∷ reverse rest)
 newest_two items middle rest one two last before = newest items middle one last ∙ ap (λ (bs : List Branch). one ∷ bs) (newest middle rest two before)
 
-pub two_fit : (p : Problem) (n : ℕ) → n ≤ 20 → (best : Option ℕ) (items rest : List Branch) (b one two : Branch) → items ≡ rest ++ (b ∷ []) → all_given n (reverse items) ≡ true → shallow (reverse items) ≡ true → Split one two ≡ decided p best b → length rest + 2 ≤ most_pending
-two_fit p n few best items rest b one two last given low is =
-    let same = newest items rest b last in
-    let fits = room_for_two n few b (reverse rest) (ap (all_given n) (sym same) ∙ given) (ap shallow (sym same) ∙ low) (split_some p best b one two is) in
-    omega (arith, fits, length-reverse rest)
+-- there is room for both
+pub two_fit : (rest : List Branch) (one two : Branch) → shallow (one ∷ (two ∷ reverse rest)) ≡ true → length rest + 2 ≤ most_pending
+two_fit rest one two low =
+    let depth : length (two ∷ reverse rest) + 1 + ones one.undecided ≤ most_pending = leb-true _ _ (and_parts _ _ low).0 in
+    omega (arith, depth, length-reverse rest)
 
 pub few_lanes : (network : Network) → length (lanes_of network) ≤ 20
 few_lanes network = omega (arith, network.lanes.ok.0, network.few)
 
 -- ---- many openings
 
-pub record Made (p : Problem) (n : ℕ) (before : Progress) (made : ℕ) (now_is : Progress) : Type 0 where
-  pub is : now_is ≡ open_many p made before
-  pub given : all_given n now_is.pending ≡ true
-
-pub made_next : (p : Problem) (n : ℕ) → n ≤ 20 → (before x y : Progress) (made : ℕ) → Made p n before made x → shallow x.pending ≡ true → x.openings + all_work x.pending ≤ most_openings → y ≡ open_one p x → Made p n before (made + 1) y
-made_next p n few before x y made far low counted is =
-    let kept = keeps p n few x.pending x.best x.openings (record { given = far.given; low = low; counted = counted }) in
-    record {
-      is = is ∙ ap (open_one p) far.is ∙ sym (many_sum p made 1 before);
-      given = ap (λ (z : Progress). all_given n z.pending) is ∙ kept.given;
-    }
+pub made_next : (p : Problem) (before x y : Progress) (made : ℕ) → x ≡ open_many p made before → y ≡ open_one p x → y ≡ open_many p (made + 1) before
+made_next p before x y made far is = is ∙ ap (open_one p) far ∙ sym (many_sum p made 1 before)
 
 -- with none pending, the openings that are left change nothing
-pub made_all : (p : Problem) (n : ℕ) (before x : Progress) (made granted : ℕ) → Made p n before made x → made ≤ granted → x.pending ≡ [] → x ≡ open_many p granted before
-made_all p n before x made granted far low ended =
+pub made_all : (p : Problem) (before x : Progress) (made granted : ℕ) → x ≡ open_many p made before → made ≤ granted → is_ended x.pending ≡ true → x ≡ open_many p granted before
+made_all p before x made granted far low ended =
     let split : made + (granted - made) ≡ granted = omega arith in
-    far.is
-    ∙ sym (idle p (granted - made) (open_many p made before) (ap (λ (z : Progress). z.pending) (sym far.is) ∙ ended))
+    far
+    ∙ sym (idle p (granted - made) (open_many p made before) (ap (λ (z : Progress). z.pending) (sym far) ∙ none_left x.pending ended))
     ∙ sym (many_sum p made (granted - made) before)
     ∙ ap (λ (k : ℕ). open_many p k before) split
-
-pub none_left : (items : List Branch) → length items ≡ 0 → reverse items ≡ []
-none_left [] none_there = refl
-none_left (b ∷ items) none_there = absurd (omega arith)
-
-pub ended_empty : (items : List Branch) → eqb (length items) 0 ≡ is_ended (reverse items)
-ended_empty items = ap (λ (n : ℕ). eqb n 0) (sym (length-reverse items)) ∙ by_length (reverse items)
   where
-    by_length : (bs : List Branch) → eqb (length bs) 0 ≡ is_ended bs
-    by_length [] = refl
-    by_length (b ∷ bs) = ne_eqb (length (b ∷ bs)) 0 (λ e. omega arith)
+    none_left : (bs : List Branch) → is_ended bs ≡ true → bs ≡ []
+    none_left [] is = refl
+    none_left (b ∷ bs) is = absurd (false≢true is)
 
 -- ---- the start
 

@@ -3,7 +3,6 @@ ghost use Rattle.std.specs.Prelude.{◌≡◌, ◌≤◌, [], IfOk, vec_capacity
 ghost use Rattle.network.specs.Networks.{lanes_of};
 ghost use Rattle.search.specs.Keeping.{most_pending};
 ghost use Rattle.search.specs.Opening.{none_started, start_over};
-ghost use Rattle.search.specs.Searching.{progress_of};
 
 use crate::branches::Branch;
 use crate::searching::{Search, SearchRoom};
@@ -27,7 +26,7 @@ impl Search {
 
     // Nothing is pending.
     pub fn new(room: SearchRoom) -> Search
-        ensures { progress_of result ≡ none_started }
+        ensures { result ≡ none_started }
     {
         let SearchRoom { pending } = room;
         Search {
@@ -39,7 +38,7 @@ impl Search {
 
     // As a search that was never started.
     pub fn clear(&mut self)
-        ensures { progress_of self.new ≡ none_started }
+        ensures { self.new ≡ none_started }
     {
         self.pending.clear();
         self.best = None;
@@ -48,7 +47,7 @@ impl Search {
 
     // Nothing is picked, and all standing lanes are undecided.
     pub fn restart(&mut self, network: &Network)
-        ensures { progress_of self.new ≡ start_over (lanes_of network.now) }
+        ensures { self.new ≡ start_over (lanes_of network.now) }
     {
         self.clear();
         self.pending.push_reserved(Branch {

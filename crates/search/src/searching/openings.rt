@@ -3,7 +3,7 @@ ghost use Rattle.std.specs.Prelude.{◌≡◌};
 ghost use Rattle.network.specs.Networks.{lanes_of};
 ghost use Rattle.search.specs.Deciding.{problem_of};
 ghost use Rattle.search.specs.Opening.{open_many, open_one};
-ghost use Rattle.search.specs.Searching.{Over, progress_of};
+ghost use Rattle.search.specs.Searching.{Over};
 
 use crate::branches::Opening;
 use crate::deciding::Problem;
@@ -13,7 +13,8 @@ use bounds::Bound;
 impl Search {
     fn open_one<B: Bound>(&mut self, problem: &Problem<B>)
         requires { Over (lanes_of problem.now.network.now) self.old }
-        ensures { progress_of self.new ≡ open_one (problem_of B.tells problem.now) (progress_of self.old) }
+        ensures opened { self.new ≡ open_one (problem_of B.tells problem.now) self.old }
+        ensures over { Over (lanes_of problem.now.network.now) self.new }
     {
         let Some(branch) = self.pending.pop() else {
             return;
@@ -32,10 +33,11 @@ impl Search {
     // Openings until so many are made or none is pending.
     pub fn open_many<B: Bound>(&mut self, problem: &Problem<B>, openings: u32)
         requires { Over (lanes_of problem.now.network.now) self.old }
-        ensures { progress_of self.new ≡ open_many (problem_of B.tells problem.now) openings (progress_of self.old) }
+        ensures opened { self.new ≡ open_many (problem_of B.tells problem.now) openings self.old }
+        ensures over { Over (lanes_of problem.now.network.now) self.new }
     {
         for _ in 0..openings {
-            if self.pending.is_empty() {
+            if self.has_ended() {
                 return;
             }
             self.open_one(problem);
