@@ -94,22 +94,14 @@ pub given_from : (p : Problem) (n : ℕ) → n ≤ 20 → (bs : List Branch) (be
 given_from p n few [] best made given = given
 given_from p n few (b ∷ rest) best made given = keeps_given n few b rest given (dropped p best b) (eqb b.undecided 0) refl
 
-pub given_many : (p : Problem) (n : ℕ) → n ≤ 20 → (w : ℕ) (x : Progress) → all_given n x.pending ≡ true → all_given n (open_many p w x).pending ≡ true
-given_many p n few zero x given = given
-given_many p n few (suc w) x given = given_many p n few w (open_one p x) (given_from p n few x.pending x.best x.openings given)
-
 pub keeps : (p : Problem) (n : ℕ) → n ≤ 20 → (bs : List Branch) (best : Option ℕ) (made : ℕ) → Kept n (record { pending = bs; best = best; openings = made }) → Kept n (open_from p bs best made)
 keeps p n few [] best made kept = record { given = kept.given; low = kept.low; counted = kept.counted }
 keeps p n few (b ∷ rest) best made kept =
     record {
-      given = keeps_given n few b rest kept.given (dropped p best b) (eqb b.undecided 0) refl;
+      given = given_from p n few (b ∷ rest) best made kept.given;
       low = keeps_shallow n few b rest kept.given kept.low (dropped p best b) (eqb b.undecided 0) refl;
       counted = omega (arith, takes_work n few b rest kept.given (dropped p best b) (eqb b.undecided 0) refl, kept.counted);
     }
-
-pub keeps_many : (p : Problem) (n : ℕ) → n ≤ 20 → (w : ℕ) (x : Progress) → Kept n x → Kept n (open_many p w x)
-keeps_many p n few zero x kept = kept
-keeps_many p n few (suc w) x kept = keeps_many p n few w (open_one p x) (keeps p n few x.pending x.best x.openings kept)
 
 -- ---- the best set is one that may be asked about
 
@@ -129,10 +121,10 @@ fits_from p n [] best made given fits = fits
 fits_from p n (b ∷ rest) best made given fits =
     fits_after p n b best (ltb-true _ _ (and_parts _ _ given).0) fits (dropped p best b) (eqb b.undecided 0) refl
 
-pub fits_many : (p : Problem) (n : ℕ) → n ≤ 20 → (w : ℕ) (x : Progress) → Kept n x → best_fits n p.most x.best ≡ true → best_fits n p.most (open_many p w x).best ≡ true
-fits_many p n few zero x kept fits = fits
-fits_many p n few (suc w) x kept fits =
-    fits_many p n few w (open_one p x) (keeps p n few x.pending x.best x.openings kept) (fits_from p n x.pending x.best x.openings kept.given fits)
+pub fits_many : (p : Problem) (n : ℕ) → n ≤ 20 → (w : ℕ) (x : Progress) → all_given n x.pending ≡ true → best_fits n p.most x.best ≡ true → best_fits n p.most (open_many p w x).best ≡ true
+fits_many p n few zero x given fits = fits
+fits_many p n few (suc w) x given fits =
+    fits_many p n few w (open_one p x) (given_from p n few x.pending x.best x.openings given) (fits_from p n x.pending x.best x.openings given fits)
 
 -- ---- one opening on the code's own parts
 

@@ -47,10 +47,16 @@ fresh_fits : (ls : List Lane) (n K : ℕ) (goal : Option Goal) → best_fits n K
 fresh_fits ls n K None = refl
 fresh_fits ls n K (Some goal) = refl
 
-pub fresh_facts : (c : Contents) (target : Option Target) (state : State) (x : Progress) → length c.lanes ≤ 20 → least_in target ≡ least_for c.parts c.most (goal_in target) → x ≡ fresh c.lanes (goal_in target) → state ≡ state_by (goal_in target) (fresh c.lanes (goal_in target)) → Facts c target state x
+pub fresh_facts : (c : Contents) (target : Option Target) (state : State) (x : Progress) → length c.lanes ≤ 20 → least_in target ≡ least_for c.parts c.most (goal_in target) → x ≡ fresh c.lanes (goal_in target) → state ≡ state_by (goal_in target) x → Facts c target state x
 fresh_facts c target state x few reached progress stands =
     let goal = goal_in target in
-    subst (Facts c target state) (sym progress) (record { given = fresh_given c.lanes few goal; fits = fresh_fits c.lanes (length c.lanes) c.most goal; reached = reached; stands = stands })
+    let n = length c.lanes in
+    record {
+      given = ap (λ (y : Progress). all_given n y.pending) progress ∙ fresh_given c.lanes few goal;
+      fits = ap (λ (y : Progress). best_fits n c.most y.best) progress ∙ fresh_fits c.lanes n c.most goal;
+      reached = reached;
+      stands = stands;
+    }
 
 -- ---- a step on the network
 
@@ -67,7 +73,7 @@ module _ (before : Network) (r : Result (Unit {0}) Refusal) (later : Network) (k
     pub refused_facts : (state : State) (x : Progress) (e : Refusal) → r ≡ Err e → Facts (contents_of before) target state x → Facts (contents_of later) target state x
     refused_facts state x e is facts = subst (λ (c : Contents). Facts c target state x) (sym (contents_kept e is)) facts
 
-    pub changed_facts : (state : State) (x : Progress) → least_in target ≡ least_for (parts_of before) (most_of before) (goal_in target) → x ≡ fresh (lanes_of later) (goal_in target) → state ≡ state_by (goal_in target) (fresh (lanes_of later) (goal_in target)) → Facts (contents_of later) target state x
+    pub changed_facts : (state : State) (x : Progress) → least_in target ≡ least_for (parts_of before) (most_of before) (goal_in target) → x ≡ fresh (lanes_of later) (goal_in target) → state ≡ state_by (goal_in target) x → Facts (contents_of later) target state x
     changed_facts state x reached progress stands =
         let still : least_in target ≡ least_for (parts_of later) (most_of later) (goal_in target) = reached ∙ sym (ap (λ s. least_for s.parts s.most (goal_in target)) kept.scale) in
         fresh_facts (contents_of later) target state x (few_lanes later) still progress stands

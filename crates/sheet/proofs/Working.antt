@@ -1,14 +1,15 @@
 -- What a grant leaves of a sheet that works, and of one that has ended.
-use Rattle.std.proofs.Common.{◌≡◌, ℕ, ◌+◌, ◌≤◌, Bool, true, false, cond, ◌⊎◌, [], length, is_some, Some, None, Ok, Option, Result, sym, refl, ap, ◌∙◌, subst}
+use Rattle.std.proofs.Common.{◌≡◌, ℕ, Bool, true, false, cond, ◌⊎◌, [], length, is_some, Some, None, Ok, Option, Result, sym, refl, ap, ◌∙◌, subst}
 use Rattle.network.specs.Answers.{first_of, told}
 use Rattle.network.specs.Networks.{depots_of, lanes_of, most_of, parts_of}
 use Rattle.network.specs.declared.networks.Network.{Network}
 use Rattle.network.specs.declared.refusals.Refusal.{Refusal}
 use Rattle.bounds.specs.Questions.{Asked}
-use Rattle.search.specs.Keeping.{all_given, all_work, best_fits, most_openings, shallow}
+use Rattle.search.specs.Keeping.{best_fits}
+use Rattle.search.specs.Searching.{Over}
 use Rattle.search.specs.Opening.{Problem, Progress, open_many}
 use Rattle.search.proofs.Counting.{idle}
-use Rattle.search.proofs.Stepping.{Kept, few_lanes, fits_many, keeps_many}
+use Rattle.search.proofs.Stepping.{few_lanes, fits_many}
 use Rattle.sheet.specs.Calls.{Stepped, carried, goal_missing, granted_by, size_refusal, verdict}
 use Rattle.sheet.specs.Goals.{goal_in, least_chance, least_for, least_in}
 use Rattle.sheet.specs.Models.{Model, problem, searched_state, state_by, state_of}
@@ -58,14 +59,13 @@ module _ (network : Network) (tell : Asked → ℕ) (target : Option Target) (st
       accepted_step m (Grant openings) _ (grant_verdict m t.goal stated openings ∙ fine)
       (ap (λ (z : Progress). record { contents = contents_of network; tell = tell; goal = goal; progress = z }) (is ∙ same_search) ∙ sym (ap (λ (q : Option Goal). granted_by q m openings) stated))
 
-  pub granted_facts : (later : State) (y : Progress) → shallow x.pending ≡ true → x.openings + all_work x.pending ≤ most_openings → y ≡ open_many (searched network t.least tell) openings x → later ≡ searched_state y.pending y.best → Facts (contents_of network) target later y
-  granted_facts later y low counted is stands =
+  pub granted_facts : (later : State) (y : Progress) → Over (lanes_of network) y → y ≡ open_many (searched network t.least tell) openings x → later ≡ searched_state y.pending y.best → Facts (contents_of network) target later y
+  granted_facts later y given is stands =
       let p = searched network t.least tell in
       let n = length (lanes_of network) in
-      let kept : Kept n x = record { given = facts.given; low = low; counted = counted } in
       record {
-        given = ap (λ (z : Progress). all_given n z.pending) is ∙ (keeps_many p n (few_lanes network) openings x kept).given;
-        fits = ap (λ (z : Progress). best_fits n (most_of network) z.best) is ∙ fits_many p n (few_lanes network) openings x kept facts.fits;
+        given = given;
+        fits = ap (λ (z : Progress). best_fits n (most_of network) z.best) is ∙ fits_many p n (few_lanes network) openings x facts.given facts.fits;
         reached = facts.reached;
         stands = stands ∙ sym (ap (λ (q : Option Goal). state_by q y) stated);
       }

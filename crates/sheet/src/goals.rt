@@ -1,10 +1,18 @@
 // Which goals are refused, and the least chance that reaches one.
-ghost use Rattle.std.specs.Prelude.{◌≡◌};
+ghost use Rattle.std.specs.Prelude.{◌≡◌, ◌^◌, ◌≤◌};
 ghost use Rattle.network.specs.Answers.{told};
 ghost use Rattle.sheet.specs.Goals.{goal_refusal, target_for};
 
 use crate::words::Goal;
 use network::{Refusal, Scale};
+
+// S^exponent.
+fn power(scale: Scale, exponent: u8) -> u64
+    requires { exponent ≤ scale.most }
+    ensures { result ≡ scale.parts ^ exponent }
+{
+    u64::from(scale.parts()).pow(u32::from(exponent))
+}
 
 // A goal, and the least chance that reaches it, in parts of the full scale.
 #[derive(Clone, Copy)]
@@ -20,13 +28,10 @@ impl Target {
         if goal.places == 0 || goal.places > scale.most() {
             return Err(Refusal::PlacesOutOfRange);
         }
-        let base = u64::from(scale.parts());
-        let places = u32::from(goal.places);
-        if goal.parts == 0 || goal.parts > base.pow(places) {
+        if goal.parts == 0 || goal.parts > power(scale, goal.places) {
             return Err(Refusal::PartsOutOfRange);
         }
-        let unused = u32::from(scale.most()) - places;
-        let least = goal.parts * base.pow(unused);
+        let least = goal.parts * power(scale, scale.most() - goal.places);
         Ok(Target { goal, least })
     }
 }

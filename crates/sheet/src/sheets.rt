@@ -1,8 +1,8 @@
 // A sheet in place: its lanes, its bound, its goal and its search.
 ghost use Rattle.std.specs.Prelude.{◌≡◌, true, length};
 ghost use Rattle.network.specs.Networks.{lanes_of, most_of, parts_of};
-ghost use Rattle.search.specs.Keeping.{all_given, best_fits};
-ghost use Rattle.search.specs.Searching.{progress_of};
+ghost use Rattle.search.specs.Keeping.{best_fits};
+ghost use Rattle.search.specs.Searching.{Over};
 ghost use Rattle.sheet.specs.Goals.{goal_in, least_for, least_in};
 ghost use Rattle.sheet.specs.Models.{state_by};
 
@@ -33,8 +33,8 @@ pub struct Sheet<B> {
     target: Option<Target>,
     state: State,
     seeking: Search,
-    ghost given: { all_given (length (lanes_of network)) (progress_of seeking).pending ≡ true },
-    ghost fits: { best_fits (length (lanes_of network)) (most_of network) (progress_of seeking).best ≡ true },
+    ghost given: { Over (lanes_of network) seeking },
+    ghost fits: { best_fits (length (lanes_of network)) (most_of network) seeking.best ≡ true },
     ghost reached: { least_in target ≡ least_for (parts_of network) (most_of network) (goal_in target) },
-    ghost stands: { state ≡ state_by (goal_in target) (progress_of seeking) },
+    ghost stands: { state ≡ state_by (goal_in target) seeking },
 }

@@ -2,7 +2,6 @@
 ghost use Rattle.std.specs.Prelude.{◌≡◌};
 ghost use Rattle.std.specs.Fn.{FnOnceReturnsAtMut};
 ghost use Rattle.network.specs.Networks.{lanes_of};
-ghost use Rattle.search.specs.Searching.{progress_of};
 ghost use Rattle.sheet.specs.Calls.{Keeps, Stepped, mark_call, renewed};
 ghost use Rattle.sheet.specs.Goals.{goal_in};
 ghost use Rattle.sheet.specs.Models.{fresh, state_by};
@@ -18,8 +17,8 @@ use search::Search;
 
 // The search anew, as a change leaves it, and the state that it is in.
 fn begin(seeking: &mut Search, network: &Network, target: Option<Target>) -> State
-    ensures progress { progress_of seeking.new ≡ fresh (lanes_of network.now) (goal_in target) }
-    ensures state { result ≡ state_by (goal_in target) (fresh (lanes_of network.now) (goal_in target)) }
+    ensures progress { seeking.new ≡ fresh (lanes_of network.now) (goal_in target) }
+    ensures state { result ≡ state_by (goal_in target) seeking.new }
 {
     match target {
         Some(_) => {

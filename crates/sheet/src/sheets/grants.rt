@@ -1,7 +1,6 @@
 // Grants of openings.
 ghost use Rattle.std.specs.Prelude.{◌≡◌};
 ghost use Rattle.network.specs.Answers.{told};
-ghost use Rattle.search.specs.Searching.{progress_of};
 ghost use Rattle.sheet.specs.Calls.{Stepped, size_refusal};
 ghost use Rattle.sheet.specs.Models.{searched_state};
 ghost use Rattle.sheet.specs.Sheets.{model_of};
@@ -25,7 +24,7 @@ pub(crate) fn check_grant(openings: u32) -> Result<(), Refusal>
 
 // The state of a sheet with a goal.
 fn find_state(seeking: &Search) -> State
-    ensures { result ≡ searched_state (progress_of seeking.now).pending (progress_of seeking.now).best }
+    ensures { result ≡ searched_state seeking.now.pending seeking.now.best }
 {
     match (seeking.has_ended(), seeking.best()) {
         (false, _) => State::Working,

@@ -27,9 +27,9 @@ impl<B: Bound> Sheet<B> {
             (_, Call::Restore { lane }) => self.mark_lane(lane, Mark::Standing),
             (_, Call::Reprice { lane, chance, cost }) => self.price_lane(lane, chance, cost),
             (_, Call::StateGoal(goal)) => self.take_goal(goal),
-            (State::Drafting, Call::Grant { openings: _ }) => Err(Refusal::NoGoal),
+            (State::Drafting, Call::Grant { .. }) => Err(Refusal::NoGoal),
             (State::Working, Call::Grant { openings }) => self.work(openings),
-            // an ended sheet has nothing to open
+            // an ended sheet has nothing to open; in one arm for both, the proof would not know the state
             (State::Found, Call::Grant { openings }) => check_grant(openings),
             (State::NoneFound, Call::Grant { openings }) => check_grant(openings),
         }

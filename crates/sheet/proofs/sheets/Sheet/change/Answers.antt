@@ -1,7 +1,6 @@
 use Rattle.std.proofs.Common.{sym, refl, ◌∙◌, subst}
 use Rattle.std.specs.Fn.{FnOnceReturnsAtMut}
 use Rattle.network.proofs.Offers.{left_with}
-use Rattle.search.specs.Searching.{progress_of}
 use Rattle.sheet.specs.Goals.{goal_in}
 use Rattle.sheet.proofs.Changing.{changed_facts, refused_facts, renewed_done, renewed_refused}
 use Rattle.sheet.proofs.sheets.Sheet.change.Goals as goal
@@ -10,7 +9,7 @@ pub invariant_of-self : goal.invariant_of-self
 invariant_of-self g c =
     let self = c.args.self.now in
     let gave : FnOnceReturnsAtMut g.F.FnOnce c.args.step self.network c.step.result c.step.new.arg2 = record { shown = _; shows = refl; left = _; met = c.step.ensures; leaves = refl } in
-    refused_facts self.network c.step.result c.step.new.arg2 (c.requires.keeps _ _ gave) self.target self.state (progress_of self.seeking) _ c.in_err-step.was (record { given = self.given; fits = self.fits; reached = self.reached; stands = self.stands })
+    refused_facts self.network c.step.result c.step.new.arg2 (c.requires.keeps _ _ gave) self.target self.state self.seeking _ c.in_err-step.was (record { given = self.given; fits = self.fits; reached = self.reached; stands = self.stands })
 
 pub returns-in_err-step-clause-stepped : goal.returns-in_err-step-clause-stepped
 returns-in_err-step-clause-stepped g c =
@@ -22,16 +21,16 @@ pub returns-in_err-step-clause-anew : goal.returns-in_err-step-clause-anew
 returns-in_err-step-clause-anew g c =
     let self = c.args.self.now in
     let gave : FnOnceReturnsAtMut g.F.FnOnce c.args.step self.network c.step.result c.step.new.arg2 = record { shown = _; shows = refl; left = _; met = c.step.ensures; leaves = refl } in
-    renewed_refused self.network c.step.result c.step.new.arg2 (c.requires.keeps _ _ gave) (g.B.Bound.tells self.bound) (goal_in self.target) (progress_of self.seeking) _ _ c.in_err-step.was (left_with _ _ c.from_residual.ensures.1)
+    renewed_refused self.network c.step.result c.step.new.arg2 (c.requires.keeps _ _ gave) (g.B.Bound.tells self.bound) (goal_in self.target) self.seeking _ _ c.in_err-step.was (left_with _ _ c.from_residual.ensures.1)
 
 pub invariant_of-self-2 : goal.invariant_of-self-2
 invariant_of-self-2 g c =
     let self = c.args.self.now in
     let gave : FnOnceReturnsAtMut g.F.FnOnce c.args.step self.network c.step.result c.step.new.arg2 = record { shown = _; shows = refl; left = _; met = c.step.ensures; leaves = refl } in
-    changed_facts self.network c.step.result c.step.new.arg2 (c.requires.keeps _ _ gave) self.target c.begin-self.result (progress_of c.begin-self.new.seeking) self.reached c.begin-self.ensures.progress c.begin-self.ensures.state
+    changed_facts self.network c.step.result c.step.new.arg2 (c.requires.keeps _ _ gave) self.target c.begin-self.result c.begin-self.new.seeking self.reached c.begin-self.ensures.progress c.begin-self.ensures.state
 
 pub returns-clause-anew : goal.returns-clause-anew
 returns-clause-anew g c =
     let self = c.args.self.now in
     let gave : FnOnceReturnsAtMut g.F.FnOnce c.args.step self.network c.step.result c.step.new.arg2 = record { shown = _; shows = refl; left = _; met = c.step.ensures; leaves = refl } in
-    renewed_done self.network c.step.result c.step.new.arg2 (c.requires.keeps _ _ gave) (g.B.Bound.tells self.bound) (goal_in self.target) (progress_of self.seeking) _ c.begin-self.ensures.progress
+    renewed_done self.network c.step.result c.step.new.arg2 (c.requires.keeps _ _ gave) (g.B.Bound.tells self.bound) (goal_in self.target) self.seeking _ c.begin-self.ensures.progress
