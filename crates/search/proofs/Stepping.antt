@@ -139,9 +139,6 @@ pub passed_over : (o : Opening) → (o ≡ Dropped) ⊎ (o ≡ Missed) → (b : 
 passed_over o either b rest best made =
     ⊎_elim (λ is. ap (λ (d : Opening). applied d b rest best made) is) (λ is. ap (λ (d : Opening). applied d b rest best made) is) either
 
-pub given_newest : (n : ℕ) (items rest : List Branch) (b : Branch) → items ≡ rest ++ (b ∷ []) → all_given n (reverse items) ≡ true → b.picked + b.undecided < 2 ^ n
-given_newest n items rest b last given = ltb-true _ _ (and_parts _ _ (ap (all_given n) (sym (newest items rest b last)) ∙ given)).0
-
 -- two branches more, the second the newest
 pub newest_two : (items middle rest : List Branch) (one two : Branch) → items ≡ middle ++ (one ∷ []) → middle ≡ rest ++ (two ∷ []) → reverse items ≡ one ∷ (two ∷ reverse rest)
 newest_two items middle rest one two last before = newest items middle one last ∙ ap (λ (bs : List Branch). one ∷ bs) (newest middle rest two before)

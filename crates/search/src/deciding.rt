@@ -52,7 +52,7 @@ impl<B: Bound> Problem<'_, B> {
     }
 
     // What comes of opening a branch of given lanes.
-    pub fn decide(&self, best: Option<u32>, branch: Branch) -> Opening
+    pub(crate) fn decide(&self, best: Option<u32>, branch: Branch) -> Opening
         requires { branch.picked + branch.undecided < 2 ^ length (lanes_of self.now.network.now) }
         ensures { result ≡ decided (problem_of B.tells self.now) best branch }
     {

@@ -26,6 +26,7 @@ pub struct SheetRoom {
 }
 
 // The least chance that reaches the goal, and the state, are kept beside what they follow from.
+// No model: it would hold what the bound tells, and a model's value may hold no function.
 #[derive(Drop)]
 pub struct Sheet<B> {
     network: Network,
