@@ -5,7 +5,7 @@
 use anyhow::anyhow;
 use bounds::{Depot, Lesser, Whole};
 use network::Refusal;
-use sheet::{Report, Sheet, SheetRoom};
+use sheet::{Goal, Report, Sheet, SheetRoom};
 use std::alloc::Global;
 use std::env;
 use std::time::Instant;
@@ -118,7 +118,10 @@ fn build_all(heap: Global, case: Case, count: u32) -> anyhow::Result<Vec<Planner
 }
 
 fn search(sheet: &mut Planner, goal: u64) -> anyhow::Result<Report> {
-    accept(sheet.state_goal(PLACES, goal))?;
+    accept(sheet.state_goal(Goal {
+        places: PLACES,
+        parts: goal,
+    }))?;
     accept(sheet.grant(OPENINGS))?;
     Ok(sheet.report())
 }
