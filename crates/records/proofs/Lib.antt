@@ -1,2 +1,2 @@
-pub mod Slices
 pub mod Steps
+pub mod Taking

@@ -45,3 +45,7 @@ allows Full Lane = false
 allows Full Plan = false
 allows Full NoPlan = false
 allows Last kind = false
+
+-- the same where the kind is allowed
+abbrev pub allowed_length : Stage → Kind → Option ℕ
+allowed_length stage kind = cond (allows stage kind) (Some (body_length kind)) None

@@ -1,4 +1,6 @@
+pub mod Answers
 pub mod Bytes
+pub mod Faults
 pub mod Kinds
 pub mod Reading
 pub mod Records

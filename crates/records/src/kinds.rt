@@ -1,6 +1,10 @@
 // The kinds of records, and where in a sheet file each may stand.
 ghost use Rattle.std.specs.Prelude.{◌≡◌};
-ghost use Rattle.records.specs.Kinds.{allows, body_length, kind_number, kind_of};
+ghost use Rattle.std.specs.Option.{ok_or};
+ghost use Rattle.records.specs.Kinds.{allowed_length, kind_number, kind_of};
+ghost use Rattle.records.specs.declared.faults.Misfit.TheVariants.{KindNotDefined};
+
+use crate::faults::Misfit;
 
 #[derive(Clone, Copy, PartialEq, Eq, Debug)]
 pub enum Kind {
@@ -9,6 +13,31 @@ pub enum Kind {
     Goal = 3,
     Plan = 4,
     NoPlan = 5,
+}
+
+impl From<Kind> for u16 {
+    ghost from_gives = { λ kind number. number ≡ kind_number kind };
+
+    fn from(kind: Kind) -> u16 {
+        kind as u16
+    }
+}
+
+impl TryFrom<u16> for Kind {
+    type Error = Misfit;
+
+    ghost try_from_gives = { λ number answer. answer ≡ ok_or (kind_of number) KindNotDefined };
+
+    fn try_from(number: u16) -> Result<Kind, Misfit> {
+        match number {
+            1 => Ok(Kind::Sheet),
+            2 => Ok(Kind::Lane),
+            3 => Ok(Kind::Goal),
+            4 => Ok(Kind::Plan),
+            5 => Ok(Kind::NoPlan),
+            _ => Err(Misfit::KindNotDefined),
+        }
+    }
 }
 
 // A sheet file begins with its sheet, goes on with lanes while there are fewer than twenty, and ends with at most one goal.
@@ -20,50 +49,22 @@ pub enum Stage {
     Last,
 }
 
-impl Kind {
-    pub fn number(self) -> u16
-        ensures { result ≡ kind_number self }
-    {
-        self as u16
-    }
-
-    pub fn of(number: u16) -> Option<Kind>
-        ensures { result ≡ kind_of number }
-    {
-        match number {
-            1 => Some(Kind::Sheet),
-            2 => Some(Kind::Lane),
-            3 => Some(Kind::Goal),
-            4 => Some(Kind::Plan),
-            5 => Some(Kind::NoPlan),
-            _ => None,
-        }
-    }
-
-    // The bytes of a body in a sheet file, where no plan may stand.
-    pub fn body_length(self) -> usize
-        ensures { result ≡ body_length self }
-    {
-        match self {
-            Kind::Sheet => 4,
-            Kind::Lane => 9,
-            Kind::Goal => 9,
-            Kind::Plan => 0,
-            Kind::NoPlan => 0,
-        }
-    }
-}
-
 impl Stage {
-    pub fn allows(self, kind: Kind) -> bool
-        ensures { result ≡ allows self kind }
+    const SHEET_BYTES: usize = 4;
+
+    const LANE_BYTES: usize = 9;
+
+    const GOAL_BYTES: usize = 9;
+
+    // The bytes of a body of this kind, if it is allowed here.
+    pub fn body_length(self, kind: Kind) -> Option<usize>
+        ensures { result ≡ allowed_length self kind }
     {
         match (self, kind) {
-            (Stage::First, Kind::Sheet) => true,
-            (Stage::Lanes, Kind::Lane) => true,
-            (Stage::Lanes, Kind::Goal) => true,
-            (Stage::Full, Kind::Goal) => true,
-            _ => false,
+            (Stage::First, Kind::Sheet) => Some(Self::SHEET_BYTES),
+            (Stage::Lanes, Kind::Lane) => Some(Self::LANE_BYTES),
+            (Stage::Lanes | Stage::Full, Kind::Goal) => Some(Self::GOAL_BYTES),
+            _ => None,
         }
     }
 }

@@ -8,4 +8,4 @@ mod readers;
 
 pub use faults::{Ended, Misfit};
 pub use kinds::{Kind, Stage};
-pub use readers::{Reader, Record};
+pub use readers::{Place, Reader, Record};

@@ -5,18 +5,26 @@ mod frames;
 mod headers;
 mod steps;
 
-// The caller's file, and the place of the next record's first byte.
+// A record's place: the record counts from 0, and the byte is its first.
+#[derive(Clone, Copy, PartialEq, Eq, Debug)]
+pub struct Place {
+    pub record: usize,
+    pub byte: usize,
+}
+
+// The caller's file, and the place of the next record.
 #[derive(Clone, Copy)]
 pub struct Reader<'a> {
     file: &'a [u8],
-    place: usize,
-    ghost within: { place ≤ length file.now },
+    place: Place,
+    ghost within: { place.byte ≤ length file.now },
+    ghost counted: { place.«record» ≤ place.byte },
 }
 
 // A record by its kind: its place, and its body as a part of the file.
-#[derive(Clone, Copy)]
+#[derive(Clone, Copy, PartialEq, Eq, Debug)]
 pub enum Record<'a> {
-    Sheet { place: usize, body: &'a [u8] },
-    Lane { place: usize, body: &'a [u8] },
-    Goal { place: usize, body: &'a [u8] },
+    Sheet { place: Place, body: &'a [u8] },
+    Lane { place: Place, body: &'a [u8] },
+    Goal { place: Place, body: &'a [u8] },
 }

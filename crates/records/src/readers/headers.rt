@@ -4,7 +4,9 @@ ghost use Rattle.records.specs.Records.{kind_in, length_in};
 
 use crate::faults::Ended;
 
-#[derive(Clone, Copy)]
+pub const HEADER_BYTES: usize = 4;
+
+#[derive(Clone, Copy, PartialEq, Eq, Debug)]
 pub struct Header<'a> {
     pub length: u16,
     pub kind: u16,
@@ -22,12 +24,4 @@ pub fn split_header<'a>(bytes: &'a [u8]) -> Result<Header<'a>, Ended>
         kind: u16::from_le_bytes([*k0, *k1]),
         after,
     })
-}
-
-// The bytes from a place on.
-pub fn skip<'a>(bytes: &'a [u8], place: usize) -> &'a [u8]
-    requires { place ≤ length bytes.now }
-    ensures { result.now ≡ drop place bytes.now }
-{
-    &bytes[place..]
 }

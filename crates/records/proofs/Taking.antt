@@ -1,35 +1,13 @@
--- The first bytes of a slice as numbers, and where a reader stands in it.
-use Rattle.std.proofs.Common.{◌≡◌, ℕ, ◌+◌, ◌-◌, ◌*◌, ◌≤◌, Bool, true, false, cond, eqb, leb, List, [], ◌∷◌, length, get_or, take, drop, Some, None, Ok, Err, Option, Result, sym, refl, ◌∙◌, subst, ⊎_elim, arith}
+-- What is known of a record that was taken.
+use Rattle.std.proofs.Common.{◌≡◌, ℕ, ◌+◌, ◌≤◌, Bool, true, false, cond, leb, List, length, take, drop, Some, None, Ok, Err, Option, Result, refl, subst, arith}
 use Rattle.std.proofs.lemmas.List.{length-drop, length-take-le}
-use Rattle.std.proofs.lemmas.Bool.{cases_lt, eq-eqb, leb-true, ne_eqb}
+use Rattle.std.proofs.lemmas.Bool.{leb-true}
 use Rattle.records.specs.Kinds.{body_length, kind_of}
 use Rattle.records.specs.Records.{Taken, frame_check, framed_by, header_bytes, kind_in, length_in, of_kind, take_record, with_body}
 use Rattle.records.specs.declared.faults.Misfit.{Misfit}
 use Rattle.records.specs.declared.faults.Misfit.TheVariants.{FileEnds, KindNotDefined}
 use Rattle.records.specs.declared.kinds.Kind.{Kind}
 use Rattle.records.specs.declared.kinds.Stage.{Stage}
-
-pub length_read : (xs : List ℕ) → 4 ≤ length xs → get_or xs 0 0 + get_or xs 1 0 * 256 ≡ length_in xs
-length_read [] long = absurd (omega arith)
-length_read (a ∷ []) long = absurd (omega arith)
-length_read (a ∷ b ∷ xs) long = omega arith
-
-pub kind_read : (xs : List ℕ) → 4 ≤ length xs → get_or xs 2 0 + get_or xs 3 0 * 256 ≡ kind_in xs
-kind_read [] long = absurd (omega arith)
-kind_read (a ∷ []) long = absurd (omega arith)
-kind_read (a ∷ b ∷ []) long = absurd (omega arith)
-kind_read (a ∷ b ∷ c ∷ []) long = absurd (omega arith)
-kind_read (a ∷ b ∷ c ∷ d ∷ xs) long = omega arith
-
--- ---- where a reader stands
-
-pub end_told : (xs : List ℕ) (place : ℕ) → place ≤ length xs → eqb place (length xs) ≡ eqb (length (drop place xs)) 0
-end_told xs place within =
-    let left : length (drop place xs) ≡ length xs - place = length-drop place xs in
-    ⊎_elim
-    (λ less. ne_eqb place (length xs) (λ same. omega (arith, less, same)) ∙ sym (ne_eqb (length (drop place xs)) 0 (λ none_left. omega (arith, less, left, none_left))))
-    (λ past. let same : place ≡ length xs = omega (arith, past, within) in let none_left : length (drop place xs) ≡ 0 = omega (arith, left, past) in eq-eqb place (length xs) same ∙ sym (eq-eqb (length (drop place xs)) 0 none_left))
-    (cases_lt place (length xs))
 
 ok_is_not_err : (t : Taken) (e : Misfit) → ◌≡◌ {A = Result Taken Misfit} (Err e) (Ok t) → ⊥
 ok_is_not_err t e h = let z : ◌≡◌ {A = ℕ} 0 1 = cc in omega arith
