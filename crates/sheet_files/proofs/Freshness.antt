@@ -1,13 +1,15 @@
 -- A sheet that was read is as a change leaves it, so a run of calls may begin there.
-use Rattle.std.proofs.Common.{◌≡◌, ℕ, zero, suc, ◌+◌, Bool, true, false, cond, eqb, ltb, List, length, is_some, Some, None, Ok, Err, Option, Result, refl, subst, arith}
+use Rattle.std.proofs.Common.{◌≡◌, ℕ, zero, suc, Bool, true, false, cond, eqb, ltb, List, length, is_some, Some, None, Ok, Err, Option, Result, refl, subst, arith}
 use Rattle.network.specs.declared.refusals.Refusal.{Refusal}
 use Rattle.bounds.specs.Questions.{Asked}
+use Rattle.records.specs.Reading.{start}
 use Rattle.records.specs.Records.{Taken, take_record}
 use Rattle.records.specs.declared.faults.Misfit.{Misfit}
 use Rattle.records.specs.declared.faults.Misfit.TheVariants.{BodyUnfit}
 use Rattle.records.specs.declared.kinds.Kind.{Kind}
 use Rattle.records.specs.declared.kinds.Kind.TheVariants.{Sheet, Lane, Goal, Plan, NoPlan}
 use Rattle.records.specs.declared.kinds.Stage.TheVariants.{First}
+use Rattle.records.specs.declared.readers.Place.{Place}
 use Rattle.sheet.specs.Calls.{after, carried, verdict}
 use Rattle.sheet.specs.Models.{Model}
 use Rattle.sheet.specs.Runs.{Fresh}
@@ -55,25 +57,25 @@ kind_fresh Sheet m body m' is_fresh h = subst Fresh (same_model m m' h) is_fresh
 kind_fresh Plan m body m' is_fresh h = subst Fresh (same_model m m' h) is_fresh
 kind_fresh NoPlan m body m' is_fresh h = subst Fresh (same_model m m' h) is_fresh
 
-go_on_fresh : (on : Model → Result Model Fault) (at place : ℕ) (r : Result Model Cause) (m' : Model) → ((n : Model) → r ≡ Ok n → on n ≡ Ok m' → Fresh m') → go_on on at place r ≡ Ok m' → Fresh m'
-go_on_fresh on at place (Ok n) m' each h = each n refl h
-go_on_fresh on at place (Err cause) m' each h = absurd (err_is_not_ok (fault cause at place) m' h)
+go_on_fresh : (on : Model → Result Model Fault) (place : Place) (r : Result Model Cause) (m' : Model) → ((n : Model) → r ≡ Ok n → on n ≡ Ok m' → Fresh m') → go_on on place r ≡ Ok m' → Fresh m'
+go_on_fresh on place (Ok n) m' each h = each n refl h
+go_on_fresh on place (Err cause) m' each h = absurd (err_is_not_ok (fault cause place) m' h)
 
-from_fresh : (most at place : ℕ) (left : List ℕ) (m m' : Model) → Fresh m → read_from most at place left m ≡ Ok m' → Fresh m'
-from_fresh zero at place left m m' is_fresh h = subst Fresh (same_model m m' h) is_fresh
-from_fresh (suc most) at place left m m' is_fresh h =
-    by_end (eqb (length left) 0) (λ place' left' n fresh_n on. from_fresh most (at + 1) place' left' n m' fresh_n on) h
+from_fresh : (most : ℕ) (place : Place) (left : List ℕ) (m m' : Model) → Fresh m → read_from most place left m ≡ Ok m' → Fresh m'
+from_fresh zero place left m m' is_fresh h = subst Fresh (same_model m m' h) is_fresh
+from_fresh (suc most) place left m m' is_fresh h =
+    by_end (eqb (length left) 0) (λ place' left' n fresh_n on. from_fresh most place' left' n m' fresh_n on) h
   where
     Again : Type 0
-    Again = (place' : ℕ) (left' : List ℕ) (n : Model) → Fresh n → read_from most (at + 1) place' left' n ≡ Ok m' → Fresh m'
+    Again = (place' : Place) (left' : List ℕ) (n : Model) → Fresh n → read_from most place' left' n ≡ Ok m' → Fresh m'
 
-    by_taken : (t : Result Taken Misfit) → Again → read_taken (read_from most (at + 1)) m at place t ≡ Ok m' → Fresh m'
+    by_taken : (t : Result Taken Misfit) → Again → read_taken (read_from most) m place t ≡ Ok m' → Fresh m'
     by_taken (Ok t) again k =
-        go_on_fresh (read_from most (at + 1) (place_after place t) t.rest) at place (by_kind t.kind m t.body) m'
+        go_on_fresh (read_from most (place_after place t) t.rest) place (by_kind t.kind m t.body) m'
         (λ n is on. again (place_after place t) t.rest n (kind_fresh t.kind m t.body n is_fresh is) on) k
-    by_taken (Err misfit) again k = absurd (err_is_not_ok (fault (causes.Misfit misfit) at place) m' k)
+    by_taken (Err misfit) again k = absurd (err_is_not_ok (fault (causes.Misfit misfit) place) m' k)
 
-    by_end : (ended : Bool) → Again → cond ended (Ok m) (read_taken (read_from most (at + 1)) m at place (take_record (stage_of m) left)) ≡ Ok m' → Fresh m'
+    by_end : (ended : Bool) → Again → cond ended (Ok m) (read_taken (read_from most) m place (take_record (stage_of m) left)) ≡ Ok m' → Fresh m'
     by_end true again k = subst Fresh (same_model m m' k) is_fresh
     by_end false again k = by_taken (take_record (stage_of m) left) again k
 
@@ -82,6 +84,6 @@ file_fresh tell file m h = by_taken (take_record First file) h
   where
     by_taken : (t : Result Taken Misfit) → read_first tell t ≡ Ok m → Fresh m
     by_taken (Ok t) k =
-        go_on_fresh (read_from (length t.rest) 1 (place_after 0 t) t.rest) 0 0 (open_by tell t.body) m
-        (λ n is on. from_fresh (length t.rest) 1 (place_after 0 t) t.rest n m (as_cause_fresh _ _ n refl is) on) k
-    by_taken (Err misfit) k = absurd (err_is_not_ok (fault (causes.Misfit misfit) 0 0) m k)
+        go_on_fresh (read_from (length t.rest) (place_after start t) t.rest) start (open_by tell t.body) m
+        (λ n is on. from_fresh (length t.rest) (place_after start t) t.rest n m (as_cause_fresh _ _ n refl is) on) k
+    by_taken (Err misfit) k = absurd (err_is_not_ok (fault (causes.Misfit misfit) start) m k)

@@ -1,5 +1,3 @@
-pub mod Causes
 pub mod Freshness
-pub mod Numbers
 pub mod Nexts
 pub mod Progressing

@@ -1,18 +1,16 @@
--- The faults of a file: number, layer and inner refusal follow from the cause.
-use Rattle.std.specs.Prelude.{ℕ}
+-- The faults of a file: number, layer and inner refusal follow from the cause; and the line that a fault prints.
+use Rattle.std.specs.Prelude.{ℕ, List, ◌++◌, Some, None, Option, codes}
+use Rattle.std.specs.Fmt.{decimal}
 use Rattle.network.specs.Refusals.{refusal_number}
+use Rattle.network.specs.declared.refusals.Refusal.{Refusal}
+use Rattle.records.specs.Faults.{misfit_number}
 use Rattle.records.specs.declared.faults.Misfit.{Misfit}
 use Rattle.records.specs.declared.faults.Misfit.TheVariants.{FileEnds, KindNotDefined, KindNotAllowed, BodyUnfit}
 use Rattle.sheet_files.specs.declared.faults.Cause.{Cause}
 use Rattle.sheet_files.specs.declared.faults.Cause.TheVariants as causes
+use Rattle.sheet_files.specs.declared.faults.Fault.{Fault}
 use Rattle.sheet_files.specs.declared.faults.Layer.{Layer}
 use Rattle.sheet_files.specs.declared.faults.Layer.TheVariants.{Bytes, Records, Sheet}
-
-abbrev misfit_number : Misfit → ℕ
-misfit_number FileEnds = 17
-misfit_number KindNotDefined = 18
-misfit_number KindNotAllowed = 19
-misfit_number BodyUnfit = 20
 
 abbrev pub fault_number : Cause → ℕ
 fault_number (causes.Misfit misfit) = misfit_number misfit
@@ -33,7 +31,17 @@ layer_number Bytes = 1
 layer_number Records = 2
 layer_number Sheet = 3
 
+-- the sheet's own refusal, if it is one
+abbrev pub refusal_in : Cause → Option Refusal
+refusal_in (causes.Misfit misfit) = None
+refusal_in (causes.Refused refusal) = Some refusal
+
 -- the number of the sheet's own refusal, 0 if there is none
 abbrev pub inner_number : Cause → ℕ
 inner_number (causes.Misfit misfit) = 0
 inner_number (causes.Refused refusal) = refusal_number refusal
+
+-- the bytes that a fault prints
+abbrev pub fault_text : Fault → List ℕ
+fault_text fault =
+    codes "fault " ++ decimal (fault_number fault.cause) ++ codes " layer " ++ decimal (layer_number (layer_of fault.cause)) ++ codes " record " ++ decimal fault.place.«record» ++ codes " byte " ++ decimal fault.place.byte ++ codes " refusal " ++ decimal (inner_number fault.cause)

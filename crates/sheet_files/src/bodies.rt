@@ -1,10 +1,13 @@
 // The bodies of records, taken apart and carried out on a sheet.
-ghost use Rattle.std.specs.Prelude.{◌≡◌, length, Ok, Err, MatchResult};
+ghost use Rattle.std.specs.Prelude.{◌≡◌, length};
+ghost use Rattle.network.specs.Marks.{mark_number};
+ghost use Rattle.records.specs.Answers.{Gives};
 ghost use Rattle.sheet.specs.Sheets.{model_of};
 ghost use Rattle.sheet_files.specs.Applying.{goal_by, lane_by, open_by, struck_by};
 
 use crate::faults::Cause;
 use bounds::Bound;
+use network::Mark;
 use records::Misfit;
 use sheet::{Sheet, SheetRoom};
 
@@ -15,7 +18,7 @@ pub fn open_sheet<B: Bound + Drop>(
     bound: B,
 ) -> Result<Sheet<B>, Cause>
     requires { length body.now ≡ 4 }
-    ensures { MatchResult result (λ sheet. open_by (B.tells bound) body.now ≡ Ok (model_of B.tells sheet)) (λ cause. open_by (B.tells bound) body.now ≡ Err cause) }
+    ensures { Gives (open_by (B.tells bound) body.now) (λ sheet. model_of B.tells sheet) result }
 {
     let [depots, most, s0, s1] = body else {
         unreachable()
@@ -25,11 +28,11 @@ pub fn open_sheet<B: Bound + Drop>(
     Ok(sheet)
 }
 
-// Mark 0 strikes the lane.
-fn strike_marked<B: Bound>(sheet: &mut Sheet<B>, mark: u8, lane: u8)
-    ensures { model_of B.tells sheet.new ≡ struck_by mark lane (model_of B.tells sheet.old) }
+// A lane that is offered stands.
+fn strike_marked<B: Bound>(sheet: &mut Sheet<B>, mark: Mark, lane: u8)
+    ensures { model_of B.tells sheet.new ≡ struck_by (mark_number mark) lane (model_of B.tells sheet.old) }
 {
-    if mark == 0 {
+    if mark == Mark::Struck {
         let _ = sheet.strike(lane);
     }
 }
@@ -37,26 +40,24 @@ fn strike_marked<B: Bound>(sheet: &mut Sheet<B>, mark: u8, lane: u8)
 // Two ends, the mark, the chance and the cost.
 pub fn add_lane<B: Bound>(sheet: &mut Sheet<B>, body: &[u8]) -> Result<(), Cause>
     requires { length body.now ≡ 9 }
-    ensures { MatchResult result (λ _. lane_by (model_of B.tells sheet.old) body.now ≡ Ok (model_of B.tells sheet.new)) (λ cause. lane_by (model_of B.tells sheet.old) body.now ≡ Err cause) }
+    ensures { Gives (lane_by (model_of B.tells sheet.old) body.now) (λ _. model_of B.tells sheet.new) result }
 {
     let [left, right, mark, p0, p1, c0, c1, c2, c3] = body else {
         unreachable()
     };
-    if *mark > 1 {
-        return Err(Cause::Misfit(Misfit::BodyUnfit));
-    }
+    let mark = Mark::try_from(*mark).map_err(|_| Misfit::BodyUnfit)?;
     let lane = sheet.network().lanes().len() as u8;
     let chance = u16::from_le_bytes([*p0, *p1]);
     let cost = u32::from_le_bytes([*c0, *c1, *c2, *c3]);
     sheet.offer(*left, *right, chance, cost)?;
-    strike_marked(sheet, *mark, lane);
+    strike_marked(sheet, mark, lane);
     Ok(())
 }
 
 // r, then g.
 pub fn state_goal<B: Bound>(sheet: &mut Sheet<B>, body: &[u8]) -> Result<(), Cause>
     requires { length body.now ≡ 9 }
-    ensures { MatchResult result (λ _. goal_by (model_of B.tells sheet.old) body.now ≡ Ok (model_of B.tells sheet.new)) (λ cause. goal_by (model_of B.tells sheet.old) body.now ≡ Err cause) }
+    ensures { Gives (goal_by (model_of B.tells sheet.old) body.now) (λ _. model_of B.tells sheet.new) result }
 {
     let [places, g0, g1, g2, g3, g4, g5, g6, g7] = body else {
         unreachable()

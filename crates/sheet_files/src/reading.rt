@@ -1,14 +1,15 @@
 // Reading a sheet file, record by record.
-ghost use Rattle.std.specs.Prelude.{◌≡◌, length, IfOk, Ok, Err, MatchResult};
+ghost use Rattle.std.specs.Prelude.{◌≡◌, length, IfOk, Err, MatchResult};
+ghost use Rattle.records.specs.Answers.{Gives};
 ghost use Rattle.records.specs.Reading.{file_of, left_of};
 ghost use Rattle.records.specs.Records.{take_record};
 ghost use Rattle.records.specs.declared.kinds.Stage.TheVariants.{First};
 ghost use Rattle.network.specs.Networks.{lanes_of};
 ghost use Rattle.sheet.specs.Runs.{Fresh};
 ghost use Rattle.sheet.specs.Sheets.{model_of};
-ghost use Rattle.sheet_files.specs.Applying.{stage_by};
+ghost use Rattle.sheet_files.specs.Applying.{stage_by, stage_of};
 ghost use Rattle.sheet_files.specs.Files.{read_file};
-ghost use Rattle.sheet_files.specs.Reading.{Next, Opened, first_by};
+ghost use Rattle.sheet_files.specs.Reading.{Carried, Next, Opened, first_by, next_by};
 
 use crate::bodies::{add_lane, open_sheet, state_goal};
 use crate::faults::{Cause, Fault};
@@ -23,30 +24,34 @@ fn find_stage<B>(sheet: &Sheet<B>) -> Stage
 {
     match sheet.goal() {
         Some(_) => Stage::Last,
-        None => {
-            if sheet.network().lanes().len() < Network::MOST_LANES {
-                Stage::Lanes
-            } else {
-                Stage::Full
-            }
-        }
+        None if sheet.network().lanes().len() < Network::MOST_LANES => Stage::Lanes,
+        None => Stage::Full,
     }
 }
 
-fn read_next<B: Bound>(sheet: &mut Sheet<B>, reader: &mut Reader) -> Result<(), Cause>
+fn carry_out_next<B: Bound>(sheet: &mut Sheet<B>, reader: &mut Reader) -> Result<(), Cause>
     ensures { Next (model_of B.tells sheet.old) reader.old result (model_of B.tells sheet.new) reader.new }
 {
     let stage = find_stage(sheet);
     match reader.step(stage)? {
-        Record::Lane { place: _, body } => add_lane(sheet, body),
-        Record::Goal { place: _, body } => state_goal(sheet, body),
+        Record::Lane { body, .. } => add_lane(sheet, body),
+        Record::Goal { body, .. } => state_goal(sheet, body),
         // only the first record may be the sheet's
-        Record::Sheet { place: _, body: _ } => Ok(()),
+        Record::Sheet { .. } => Ok(()),
     }
 }
 
+// A fault is told with the place of the record that has it.
+fn read_next<B: Bound>(sheet: &mut Sheet<B>, reader: &mut Reader) -> Result<(), Fault>
+    ensures file { file_of reader.new ≡ file_of reader.old }
+    ensures answer { MatchResult result (λ _. Carried (model_of B.tells sheet.old) reader.old (model_of B.tells sheet.new) reader.new) (λ fault. (next_by (model_of B.tells sheet.old) (take_record (stage_of (model_of B.tells sheet.old)) (left_of reader.old)) ≡ Err fault.cause) × (fault.place ≡ reader.old.place)) }
+{
+    let place = reader.place();
+    carry_out_next(sheet, reader).map_err(|cause| Fault { cause, place })
+}
+
 // The first record is the sheet's own.
-fn read_first<B: Bound + Drop>(
+fn carry_out_first<B: Bound + Drop>(
     room: SheetRoom,
     reader: &mut Reader,
     bound: B,
@@ -55,42 +60,33 @@ fn read_first<B: Bound + Drop>(
     ensures answer { MatchResult result (λ sheet. Opened (B.tells bound) reader.old (model_of B.tells sheet) reader.new) (λ cause. first_by (B.tells bound) (take_record First (left_of reader.old)) ≡ Err cause) }
 {
     match reader.step(Stage::First)? {
-        Record::Sheet { place: _, body } => open_sheet(room, body, bound),
+        Record::Sheet { body, .. } => open_sheet(room, body, bound),
         // no other kind may stand first
-        Record::Lane { place: _, body: _ } => unreachable(),
-        Record::Goal { place: _, body: _ } => unreachable(),
+        Record::Lane { .. } | Record::Goal { .. } => unreachable(),
     }
+}
+
+fn read_first<B: Bound + Drop>(
+    room: SheetRoom,
+    reader: &mut Reader,
+    bound: B,
+) -> Result<Sheet<B>, Fault>
+    ensures file { file_of reader.new ≡ file_of reader.old }
+    ensures answer { MatchResult result (λ sheet. Opened (B.tells bound) reader.old (model_of B.tells sheet) reader.new) (λ fault. (first_by (B.tells bound) (take_record First (left_of reader.old)) ≡ Err fault.cause) × (fault.place ≡ reader.old.place)) }
+{
+    let place = reader.place();
+    carry_out_first(room, reader, bound).map_err(|cause| Fault { cause, place })
 }
 
 // The sheet that a file describes, or the one fault that it has. A run of calls may begin there.
 pub fn read<B: Bound + Drop>(room: SheetRoom, file: &[u8], bound: B) -> Result<Sheet<B>, Fault>
-    ensures told { MatchResult result (λ sheet. read_file (B.tells bound) file.now ≡ Ok (model_of B.tells sheet)) (λ fault. read_file (B.tells bound) file.now ≡ Err fault) }
+    ensures told { Gives (read_file (B.tells bound) file.now) (λ sheet. model_of B.tells sheet) result }
     ensures fresh { IfOk result (λ sheet. Fresh (model_of B.tells sheet)) }
 {
     let mut reader = Reader::new(file);
-    let mut sheet = match read_first(room, &mut reader, bound) {
-        Ok(sheet) => sheet,
-        Err(cause) => {
-            return Err(Fault {
-                cause,
-                record: 0,
-                byte: 0,
-            });
-        }
-    };
-    let mut record = 1;
+    let mut sheet = read_first(room, &mut reader, bound)?;
     while !reader.is_at_end() {
-        let byte = reader.place();
-        match read_next(&mut sheet, &mut reader) {
-            Ok(()) => record += 1,
-            Err(cause) => {
-                return Err(Fault {
-                    cause,
-                    record,
-                    byte,
-                });
-            }
-        }
+        read_next(&mut sheet, &mut reader)?;
     }
     Ok(sheet)
 }

@@ -1,7 +1,7 @@
 use Rattle.std.proofs.Common.{Ok, ap, ◌∙◌}
 use Rattle.sheet.specs.Sheets.{model_of}
 use Rattle.sheet_files.proofs.Nexts.{next_done}
-use Rattle.sheet_files.proofs.reading.read_next.Goals as goal
+use Rattle.sheet_files.proofs.reading.carry_out_next.Goals as goal
 
 pub returns-in-Lane : goal.returns-in-Lane
 returns-in-Lane g c =
