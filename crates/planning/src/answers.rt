@@ -1,55 +1,61 @@
 // The plan of a sheet file.
 ghost use Rattle.std.specs.Prelude.{◌≡◌};
-ghost use Rattle.planning.specs.Answers.{answer_to, told_by};
+ghost use Rattle.planning.specs.Answers.{answer_to};
+ghost use Rattle.planning.specs.declared.answers.Failure.TheVariants as failures;
 
 use bounds::{Depot, Lesser, Whole};
 use network::Refusal;
-use sheet::{MOST_GRANTED, Plan, Report, SheetRoom};
+use sheet::{MOST_GRANTED, Plan, SheetRoom};
 use sheet_files::{Fault, read};
 
-#[derive(Clone, Copy)]
-pub enum Answer {
-    Found {
-        plan: Plan,
-        full: u64,
-        openings: u32,
-    },
-    NoneFound {
-        openings: u32,
-    },
-    Refused(Refusal),
-    Faulty(Fault),
+// No sheet file is longer, and no later byte can change the answer.
+pub const MOST_BYTES: usize = 512;
+
+// After a search that has ended there is a best set exactly if one was found. Its chance is in parts of the full scale.
+#[derive(Clone, Copy, PartialEq, Eq, Debug)]
+pub struct Planned {
+    pub best: Option<Plan>,
+    pub full: u64,
+    pub openings: u32,
 }
 
-// After a search that has ended there is a best set exactly if one was found.
-fn tell(report: Report, full: u64) -> Answer
-    ensures { result ≡ told_by full report }
-{
-    let openings = report.openings;
-    match report.best {
-        Some(plan) => Answer::Found {
-            plan,
-            full,
-            openings,
-        },
-        None => Answer::NoneFound { openings },
+// Why there is no search to report.
+#[derive(Clone, Copy, PartialEq, Eq, Debug)]
+pub enum Failure {
+    Faulty(Fault),
+    Refused(Refusal),
+}
+
+impl From<Fault> for Failure {
+    ghost from_gives = { λ fault failure. failure ≡ failures.Faulty fault };
+
+    fn from(fault: Fault) -> Failure {
+        Failure::Faulty(fault)
+    }
+}
+
+impl From<Refusal> for Failure {
+    ghost from_gives = { λ refusal failure. failure ≡ failures.Refused refusal };
+
+    fn from(refusal: Refusal) -> Failure {
+        Failure::Refused(refusal)
     }
 }
 
 // One grant of all openings, under the lesser of the depot and the whole bound.
-pub fn plan(room: SheetRoom, file: &[u8]) -> Answer
+pub fn plan(room: SheetRoom, file: &[u8]) -> Result<Planned, Failure>
     ensures { result ≡ answer_to file.now }
 {
     let bound = Lesser {
         first: Depot,
         second: Whole,
     };
-    let mut sheet = match read(room, file, bound) {
-        Ok(sheet) => sheet,
-        Err(fault) => return Answer::Faulty(fault),
-    };
-    match sheet.grant(MOST_GRANTED) {
-        Ok(()) => tell(sheet.report(), sheet.network().scale().full()),
-        Err(refusal) => Answer::Refused(refusal),
-    }
+    let mut sheet = read(room, file, bound)?;
+    sheet.grant(MOST_GRANTED)?;
+    let report = sheet.report();
+    Ok(Planned {
+        best: report.best,
+        full: sheet.network().scale().full(),
+        openings: report.openings,
+    })
 }

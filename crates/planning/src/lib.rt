@@ -1,9 +1,8 @@
 // From the bytes of a sheet file to the answer that the console program prints.
-// Promise: the file's fault, or the refusal of one grant of all openings, or what the sheet reports after it.
+// Promise: the file's fault, or the refusal of one grant of all openings, or what the sheet reports after it; and each as one line.
 #![tactic(auto)]
 
 mod answers;
 mod lines;
 
-pub use answers::{Answer, plan};
-pub use lines::write_line;
+pub use answers::{Failure, MOST_BYTES, Planned, plan};
