@@ -1,12 +1,9 @@
 // Reads a sheet file from standard input and prints its plan, or why there is none, in one line.
 #![tactic(auto)]
 
-use planning::{plan, write_line};
+use planning::{MOST_BYTES, plan};
 use sheet::SheetRoom;
 use std::io::Read;
-
-// No sheet file is longer, and no later byte can change the answer.
-const MOST_BYTES: usize = 512;
 
 fn main(rt: HostRuntime) -> anyhow::Result<()> {
     let mut buffer = [0u8; MOST_BYTES];
@@ -20,7 +17,12 @@ fn main(rt: HostRuntime) -> anyhow::Result<()> {
         filled += count;
     }
     let room = SheetRoom::reserve(rt.alloc())?;
-    let line = write_line(rt.alloc(), plan(room, &buffer[..filled]))?;
-    println!(rt; "{line}")?;
+    let answer = plan(room, &buffer[..filled]);
+    let Ok(planned) = answer else {
+        let failure = answer.unwrap_err();
+        println!(rt; "{failure}")?;
+        return Ok(());
+    };
+    println!(rt; "{planned}")?;
     Ok(())
 }
