@@ -1,21 +1,43 @@
 use network::{Lane, LaneRoom, Mark, Network, Refusal};
 use reliability::{chance, connected};
 use std::test::Fail;
+use trials::FIRST;
 
-const FIRST: Lane = Lane {
-    left: 0,
-    right: 1,
-    chance: 9,
-    cost: 4,
-    mark: Mark::Standing,
-};
-
-// The refusal's number, or 0 where the network is made.
-fn opened(rt: &HostRuntime, parts: u16, most: u8, depots: u8, lanes: &[Lane]) -> Result<u8, Fail> {
+// The refusal, or none where the network is made.
+fn refusal(
+    rt: &HostRuntime,
+    parts: u16,
+    most: u8,
+    depots: u8,
+    lanes: &[Lane],
+) -> Result<Option<Refusal>, Fail> {
     let room = LaneRoom::reserve(rt.alloc())?;
-    match Network::new(room, parts, most, depots, lanes) {
-        Ok(_) => Ok(0),
-        Err(refusal) => Ok(refusal.number()),
+    Ok(Network::new(room, parts, most, depots, lanes).err())
+}
+
+// The numbers of the refusal table.
+#[test]
+fn each_has_its_number(rt: HostRuntime) {
+    let numbers = [
+        (Refusal::ScaleNotAdmitted, 1),
+        (Refusal::SetLimitNotAdmitted, 2),
+        (Refusal::DepotsOutOfRange, 3),
+        (Refusal::EndsUnfit, 4),
+        (Refusal::ChanceOutOfRange, 5),
+        (Refusal::CostTooHigh, 6),
+        (Refusal::LanesFull, 7),
+        (Refusal::NumberNotGiven, 8),
+        (Refusal::MarkedAlready, 9),
+        (Refusal::PlacesOutOfRange, 10),
+        (Refusal::PartsOutOfRange, 11),
+        (Refusal::NoGoal, 12),
+        (Refusal::GrantTooLarge, 13),
+        (Refusal::LaneNotGiven, 14),
+        (Refusal::TooManyLanesNamed, 15),
+        (Refusal::ScratchTooShort, 16),
+    ];
+    for (refusal, number) in numbers {
+        assert_eq!(rt; refusal.number(), number);
     }
 }
 
@@ -32,61 +54,75 @@ fn admits_scales_up_to_their_limit(rt: HostRuntime) -> Result<(), Fail> {
         (1000, 6),
     ];
     for (parts, limit) in limits {
-        assert_eq!(rt; opened(&rt, parts, limit, 2, &[])?, 0);
-        assert_eq!(rt; opened(&rt, parts, limit + 1, 2, &[])?, 2);
-        assert_eq!(rt; opened(&rt, parts, 0, 2, &[])?, 2);
-        assert_eq!(rt; opened(&rt, parts + 1, 1, 2, &[])?, 1);
+        assert_eq!(rt; refusal(&rt, parts, limit, 2, &[])?, None);
+        assert_eq!(rt;
+            refusal(&rt, parts, limit + 1, 2, &[])?,
+            Some(Refusal::SetLimitNotAdmitted)
+        );
+        assert_eq!(rt;
+            refusal(&rt, parts, 0, 2, &[])?,
+            Some(Refusal::SetLimitNotAdmitted)
+        );
+        assert_eq!(rt;
+            refusal(&rt, parts + 1, 1, 2, &[])?,
+            Some(Refusal::ScaleNotAdmitted)
+        );
     }
     Ok(())
 }
 
 #[test]
 fn checks_in_rising_order(rt: HostRuntime) -> Result<(), Fail> {
-    assert_eq!(rt; opened(&rt, 11, 0, 0, &[])?, 1);
-    assert_eq!(rt; opened(&rt, 10, 0, 0, &[])?, 2);
-    assert_eq!(rt; opened(&rt, 10, 4, 1, &[])?, 3);
-    assert_eq!(rt; opened(&rt, 10, 4, 11, &[])?, 3);
-    let ends = Lane {
-        right: 0,
-        chance: 0,
-        cost: 1_000_001,
-        ..FIRST
-    };
-    assert_eq!(rt; opened(&rt, 10, 4, 2, &[ends])?, 4);
+    // the scale, K and the depots
+    let openings = [
+        (11, 0, 0, Refusal::ScaleNotAdmitted),
+        (10, 0, 0, Refusal::SetLimitNotAdmitted),
+        (10, 4, 1, Refusal::DepotsOutOfRange),
+        (10, 4, 11, Refusal::DepotsOutOfRange),
+    ];
+    for (parts, most, depots, refused) in openings {
+        assert_eq!(rt; refusal(&rt, parts, most, depots, &[])?, Some(refused));
+    }
+    Ok(())
+}
+
+#[test]
+fn checks_lanes_in_rising_order(rt: HostRuntime) -> Result<(), Fail> {
+    // the right end, the chance and the cost of a lane between two depots
+    let lanes = [
+        (0, 0, 1_000_001, Some(Refusal::EndsUnfit)),
+        (2, 9, 4, Some(Refusal::EndsUnfit)),
+        (1, 11, 1_000_001, Some(Refusal::ChanceOutOfRange)),
+        (1, 0, 4, Some(Refusal::ChanceOutOfRange)),
+        (1, 10, 1_000_001, Some(Refusal::CostTooHigh)),
+        (1, 9, 1_000_000, None),
+    ];
+    for (right, chance, cost, refused) in lanes {
+        let lane = Lane {
+            right,
+            chance,
+            cost,
+            ..FIRST
+        };
+        assert_eq!(rt; refusal(&rt, 10, 4, 2, &[lane])?, refused, "{lane:?}");
+    }
     let far = Lane { right: 2, ..FIRST };
-    assert_eq!(rt; opened(&rt, 10, 4, 2, &[far])?, 4);
-    assert_eq!(rt; opened(&rt, 10, 4, 3, &[far])?, 0);
-    let chance = Lane {
-        chance: 11,
-        cost: 1_000_001,
-        ..FIRST
-    };
-    assert_eq!(rt; opened(&rt, 10, 4, 2, &[chance])?, 5);
-    let never = Lane { chance: 0, ..FIRST };
-    assert_eq!(rt; opened(&rt, 10, 4, 2, &[never])?, 5);
-    let dear = Lane {
-        chance: 10,
-        cost: 1_000_001,
-        ..FIRST
-    };
-    assert_eq!(rt; opened(&rt, 10, 4, 2, &[dear])?, 6);
-    let limit = Lane {
-        cost: 1_000_000,
-        ..FIRST
-    };
-    assert_eq!(rt; opened(&rt, 10, 4, 2, &[limit])?, 0);
+    assert_eq!(rt; refusal(&rt, 10, 4, 3, &[far])?, None);
     Ok(())
 }
 
 #[test]
 fn takes_twenty_lanes(rt: HostRuntime) -> Result<(), Fail> {
-    assert_eq!(rt; opened(&rt, 10, 4, 2, &[FIRST; 20])?, 0);
-    assert_eq!(rt; opened(&rt, 10, 4, 2, &[FIRST; 21])?, 7);
+    assert_eq!(rt; refusal(&rt, 10, 4, 2, &[FIRST; 20])?, None);
+    assert_eq!(rt;
+        refusal(&rt, 10, 4, 2, &[FIRST; 21])?,
+        Some(Refusal::LanesFull)
+    );
     let mut last = [FIRST; 21];
     last[20].chance = 0;
     assert_eq!(rt;
-        opened(&rt, 10, 4, 2, &last)?,
-        5,
+        refusal(&rt, 10, 4, 2, &last)?,
+        Some(Refusal::ChanceOutOfRange),
         "the lane's own refusals come first"
     );
     Ok(())
@@ -99,9 +135,7 @@ fn refuses_sets(rt: HostRuntime) -> Result<(), Fail> {
         ..FIRST
     };
     let lanes = [FIRST, struck, FIRST];
-    let Ok(network) = Network::new(LaneRoom::reserve(rt.alloc())?, 10, 2, 2, &lanes) else {
-        return Err(Fail::new("the network is refused"));
-    };
+    let network = Network::new(LaneRoom::reserve(rt.alloc())?, 10, 2, 2, &lanes)?;
     assert_eq!(rt;
         network.cost(15),
         Err(Refusal::LaneNotGiven),
