@@ -2,9 +2,7 @@
 // Without an argument it does nothing. With one it writes a line: rounds, microseconds, checksum.
 #![tactic(auto)]
 
-ghost use Rattle.std.specs.Prelude.{◌<◌};
-
-use anyhow::anyhow;
+use anyhow::ensure;
 use network::{Lane, LaneRoom, Mark, Network};
 use reliability::{SCRATCH_PLACES, total};
 use semiring::{Semiring, Share};
@@ -39,32 +37,25 @@ const ENDS: [[u8; 2]; LANES] = [
 ];
 
 // Each network has chances of its own, so that no total can be kept from an earlier round.
-fn build(heap: Global, number: usize) -> anyhow::Result<Network>
-    requires { number < 8 }
-{
-    let mut lanes = Vec::with_capacity(heap, LANES)?;
-    for (i, ends) in ENDS.iter().enumerate() {
-        lanes.push(Lane {
-            left: ends[0],
-            right: ends[1],
-            chance: 1 + ((i * 7 + number * 5) % 9) as u16,
-            cost: 10,
-            mark: Mark::Standing,
-        })?;
-    }
-    let room = LaneRoom::reserve(heap)?;
-    match Network::new(room, 10, 18, 10, lanes.as_slice()) {
-        Ok(network) => Ok(network),
-        Err(_) => Err(anyhow!("a lane was refused")),
+fn lane_of(ends: [u8; 2], place: usize, number: usize) -> Lane {
+    let [left, right] = ends;
+    Lane {
+        left,
+        right,
+        chance: 1 + ((place % 9 * 7 + number % 9 * 5) % 9) as u16,
+        cost: 10,
+        mark: Mark::Standing,
     }
 }
 
-fn build_all(heap: Global) -> anyhow::Result<Vec<Network>> {
-    let mut networks = Vec::new(heap);
-    for number in 0..NETWORKS {
-        networks.push(build(heap, number)?)?;
-    }
-    Ok(networks)
+fn build(heap: Global, number: usize) -> anyhow::Result<Network> {
+    let lanes = ENDS
+        .into_iter()
+        .enumerate()
+        .map(|(place, ends)| lane_of(ends, place, number))
+        .collect::<Vec<Lane>>(heap)?;
+    let room = LaneRoom::reserve(heap)?;
+    Ok(Network::new(room, 10, 18, 10, lanes.as_slice())?)
 }
 
 // The totals of one round after another, in one number.
@@ -75,13 +66,8 @@ fn sum_up(
     scratch: &mut [Share],
 ) -> anyhow::Result<u64> {
     let mut checksum = 0u64;
-    for round in 0..rounds {
-        let Some(network) = networks.get(round % NETWORKS) else {
-            return Err(anyhow!("too few networks"));
-        };
-        let Ok(share) = total::<Share>(network, set, scratch) else {
-            return Err(anyhow!("the set was refused"));
-        };
+    for network in networks.iter().cycle().take(rounds) {
+        let share = total::<Share>(network, set, scratch)?;
         checksum = checksum.wrapping_mul(31).wrapping_add(share.parts());
     }
     Ok(checksum)
@@ -89,9 +75,7 @@ fn sum_up(
 
 // A network's first lanes, as a set.
 fn first(count: usize) -> anyhow::Result<u32> {
-    if count > LANES {
-        return Err(anyhow!("at most 18 lanes"));
-    }
+    ensure!(count <= LANES, "at most 18 lanes");
     Ok((1 << count) - 1)
 }
 
@@ -106,7 +90,9 @@ fn run(rt: &HostRuntime) -> anyhow::Result<()> {
         None => LANES,
     };
     let set = first(count)?;
-    let networks = build_all(rt.alloc())?;
+    let networks = (0..NETWORKS)
+        .map(|number| build(rt.alloc(), number))
+        .try_collect::<Vec<Network>>(rt.alloc())?;
     let mut scratch = [Share::zero(); SCRATCH_PLACES];
     let start = Instant::now(rt)?;
     let checksum = sum_up(networks.as_slice(), rounds, set, &mut scratch)?;
