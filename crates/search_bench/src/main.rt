@@ -2,23 +2,18 @@
 // Without an argument it does nothing. With one it writes a line: sheets, microseconds, checksum, openings.
 #![tactic(auto)]
 
-use anyhow::anyhow;
+use anyhow::Context;
 use bounds::{Depot, Lesser, Whole};
 use network::Refusal;
-use sheet::{Goal, Report, Sheet, SheetRoom};
+use sheet::{Goal, MOST_GRANTED, Report, Sheet, SheetRoom};
 use std::alloc::Global;
 use std::env;
 use std::time::Instant;
+use trials::Draws;
 
 const DEPOTS: u8 = 10;
 
 const CHORDS: u8 = 10;
-
-// A search of twenty lanes takes no more.
-const OPENINGS: u32 = 2_097_151;
-
-// The goals are in parts of the second power of the scale.
-const PLACES: u8 = 2;
 
 type Planner = Sheet<Lesser<Depot, Whole>>;
 
@@ -28,50 +23,34 @@ struct Case {
     parts: u16,
     most: u8,
     low: u8,
-    goal: u64,
+    goal: Goal,
 }
 
 const TENTHS: Case = Case {
     parts: 10,
     most: 18,
     low: 5,
-    goal: 75,
+    goal: Goal {
+        places: 2,
+        parts: 75,
+    },
 };
 
 const SIXTEENTHS: Case = Case {
     parts: 16,
     most: 14,
     low: 10,
-    goal: 180,
+    goal: Goal {
+        places: 2,
+        parts: 180,
+    },
 };
 
 fn find_case(parts: u16) -> anyhow::Result<Case> {
-    match parts {
-        10 => Ok(TENTHS),
-        16 => Ok(SIXTEENTHS),
-        _ => Err(anyhow!("the scale is 10 or 16")),
-    }
-}
-
-// Numbers that follow from the first one.
-#[derive(Drop)]
-struct Draws {
-    last: u32,
-}
-
-impl Draws {
-    // The low bits of these numbers repeat soon, so they are left out.
-    fn next(&mut self) -> u32 {
-        self.last = self.last.wrapping_mul(1_103_515_245).wrapping_add(12_345) % 0x8000_0000;
-        self.last / 65_536
-    }
-}
-
-fn accept(answer: Result<(), Refusal>) -> anyhow::Result<()> {
-    match answer {
-        Ok(()) => Ok(()),
-        Err(_) => Err(anyhow!("a call was refused")),
-    }
+    [TENTHS, SIXTEENTHS]
+        .into_iter()
+        .find(|case| case.parts == parts)
+        .context("the scale is 10 or 16")
 }
 
 fn offer(
@@ -80,11 +59,11 @@ fn offer(
     draws: &mut Draws,
     left: u8,
     step: u8,
-) -> anyhow::Result<()> {
+) -> Result<(), Refusal> {
     let right = (u32::from(left) + u32::from(step)) % u32::from(DEPOTS);
-    let chance = u16::from(case.low) + (draws.next() % 5) as u16;
-    let cost = 1 + draws.next() % 1000;
-    accept(sheet.offer(left, right as u8, chance, cost))
+    let chance = u16::from(case.low) + (draws.draw_high() % 5) as u16;
+    let cost = 1 + draws.draw_high() % 1000;
+    sheet.offer(left, right as u8, chance, cost)
 }
 
 // A ring of ten depots, and ten chords.
@@ -94,35 +73,22 @@ fn build(heap: Global, case: Case, number: u32) -> anyhow::Result<Planner> {
         second: Whole,
     };
     let room = SheetRoom::reserve(heap)?;
-    let Ok(mut sheet) = Sheet::open(room, case.parts, case.most, DEPOTS, bound) else {
-        return Err(anyhow!("the sheet was refused"));
-    };
+    let mut sheet = Sheet::open(room, case.parts, case.most, DEPOTS, bound)?;
     let mut draws = Draws { last: number };
     for left in 0..DEPOTS {
         offer(&mut sheet, case, &mut draws, left, 1)?;
     }
     for _ in 0..CHORDS {
-        let left = (draws.next() % 10) as u8;
-        let step = 2 + (draws.next() % 7) as u8;
+        let left = (draws.draw_high() % 10) as u8;
+        let step = 2 + (draws.draw_high() % 7) as u8;
         offer(&mut sheet, case, &mut draws, left, step)?;
     }
     Ok(sheet)
 }
 
-fn build_all(heap: Global, case: Case, count: u32) -> anyhow::Result<Vec<Planner>> {
-    let mut sheets = Vec::new(heap);
-    for number in 0..count {
-        sheets.push(build(heap, case, number)?)?;
-    }
-    Ok(sheets)
-}
-
-fn search(sheet: &mut Planner, goal: u64) -> anyhow::Result<Report> {
-    accept(sheet.state_goal(Goal {
-        places: PLACES,
-        parts: goal,
-    }))?;
-    accept(sheet.grant(OPENINGS))?;
+fn search(sheet: &mut Planner, goal: Goal) -> Result<Report, Refusal> {
+    sheet.state_goal(goal.places, goal.parts)?;
+    sheet.grant(MOST_GRANTED)?;
     Ok(sheet.report())
 }
 
@@ -149,7 +115,7 @@ impl Sums {
     }
 }
 
-fn sum_up(sheets: &mut [Planner], goal: u64) -> anyhow::Result<Sums> {
+fn sum_up(sheets: &mut [Planner], goal: Goal) -> Result<Sums, Refusal> {
     let mut sums = Sums {
         checksum: 0,
         openings: 0,
@@ -170,7 +136,9 @@ fn run(rt: &HostRuntime) -> anyhow::Result<()> {
         Some(parts) => find_case(parts.as_str().parse::<u16>()?)?,
         None => TENTHS,
     };
-    let mut sheets = build_all(rt.alloc(), case, count)?;
+    let mut sheets = (0..count)
+        .map(|number| build(rt.alloc(), case, number))
+        .try_collect::<Vec<Planner>>(rt.alloc())?;
     let start = Instant::now(rt)?;
     let sums = sum_up(sheets.as_mut_slice(), case.goal)?;
     let micros = start.elapsed(rt)?.as_micros();
