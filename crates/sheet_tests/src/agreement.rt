@@ -1,35 +1,28 @@
 // Every sheet of the families under four bounds, whole, against the enumeration.
 use crate::calls::seek;
-use crate::cases::{Case, GOAL_COUNT, GOALS, LIMITS, due};
-use crate::enumeration::{all_chances, standing};
-use crate::families::{WAYS, offered, take_lanes};
+use crate::cases::{Case, GOAL_COUNT, GOALS, LIMITS, Taken};
+use crate::families::{each_way, offered};
 use bounds::{Bound, Depot, Lesser, Plain, Whole};
-use sheet::Sheet;
+use sheet::{Goal, Sheet};
 use std::alloc::AllocGlobal;
 use std::process::Abort;
 use std::test::*;
 
 // The openings that each goal takes.
 fn count_openings<B: Bound>(
-    rt: &impl Abort,
+    rt: &(impl Abort + AllocGlobal),
     sheet: &mut Sheet<B>,
     case: Case,
-) -> Result<[u32; GOAL_COUNT], Fail> {
-    let Case {
-        depots,
-        way,
-        most,
-        ..
-    } = case;
-    let mut openings = [0; GOAL_COUNT];
+) -> Result<Vec<u32>, Fail> {
+    let mut openings = Vec::new(rt.alloc());
     for (i, (places, parts, least)) in GOALS.into_iter().enumerate() {
-        let report = seek(sheet, places, parts)?;
+        let report = seek(sheet, Goal { places, parts })?;
         assert_eq!(rt;
             report,
-            due(case, least, report.openings),
-            "depots {depots}, way {way}, at most {most}, goal {i}"
+            case.due(least, report.openings),
+            "{case}, goal {i}"
         );
-        openings[i % GOAL_COUNT] = report.openings;
+        openings.push(report.openings)?;
     }
     Ok(openings)
 }
@@ -38,28 +31,14 @@ fn openings_under<B: Bound + Drop>(
     rt: &(impl Abort + AllocGlobal),
     case: Case,
     bound: B,
-) -> Result<[u32; GOAL_COUNT], Fail> {
-    let mut sheet = offered(rt, case.most, case.depots, bound, case.lanes)?;
+) -> Result<Vec<u32>, Fail> {
+    let mut sheet = offered(rt, case.most, bound, case.taken.layout)?;
     count_openings(rt, &mut sheet, case)
 }
 
-fn none_is_above(
-    rt: &impl Abort,
-    case: Case,
-    openings: [u32; GOAL_COUNT],
-    limits: [u32; GOAL_COUNT],
-) {
-    let Case {
-        depots,
-        way,
-        most,
-        ..
-    } = case;
-    for i in 0..GOAL_COUNT {
-        assert!(rt;
-            openings[i] <= limits[i],
-            "depots {depots}, way {way}, at most {most}, goal {i}"
-        );
+fn none_is_above(rt: &impl Abort, case: Case, openings: &[u32], limits: &[u32]) {
+    for (i, (count, limit)) in openings.iter().zip(limits).enumerate() {
+        assert!(rt; count <= limit, "{case}, goal {i}");
     }
 }
 
@@ -74,44 +53,40 @@ fn compare(rt: &(impl Abort + AllocGlobal), case: Case) -> Result<(), Fail> {
     let whole = openings_under(rt, case, Whole)?;
     let lesser = openings_under(rt, case, lesser)?;
     // no more than the nodes of a binary tree with a level for each standing lane
-    let nodes = (2u32 << standing(case.lanes).count_ones() % 8) - 1;
-    none_is_above(rt, case, plain, [nodes; GOAL_COUNT]);
-    none_is_above(rt, case, depot, plain);
-    none_is_above(rt, case, whole, plain);
-    none_is_above(rt, case, lesser, depot);
-    none_is_above(rt, case, lesser, whole);
+    let nodes = (2u32 << case.taken.layout.standing().count_ones() % 8) - 1;
+    none_is_above(rt, case, &plain, &[nodes; GOAL_COUNT]);
+    none_is_above(rt, case, &depot, &plain);
+    none_is_above(rt, case, &whole, &plain);
+    none_is_above(rt, case, &lesser, &depot);
+    none_is_above(rt, case, &lesser, &whole);
     Ok(())
 }
 
-fn compare_all(rt: &(impl Abort + AllocGlobal), depots: u8) -> Result<(), Fail> {
-    for way in 0..WAYS {
-        let taken = take_lanes(depots, way);
-        for (most, unit) in LIMITS {
-            let case = Case {
-                depots,
-                way,
-                lanes: taken.lanes(),
-                chances: &all_chances(taken.lanes(), depots),
-                most,
-                unit,
-            };
-            compare(rt, case)?;
-        }
+fn compare_limits(rt: &(impl Abort + AllocGlobal), taken: Taken) -> Result<(), Fail> {
+    let chances = taken.layout.chances();
+    for (most, unit) in LIMITS {
+        let case = Case {
+            taken,
+            chances: &chances,
+            most,
+            unit,
+        };
+        compare(rt, case)?;
     }
     Ok(())
 }
 
 #[test]
 fn two_depots(rt: HostRuntime) -> Result<(), Fail> {
-    compare_all(&rt, 2)
+    each_way(&rt, 2, |taken| compare_limits(&rt, taken))
 }
 
 #[test]
 fn three_depots(rt: HostRuntime) -> Result<(), Fail> {
-    compare_all(&rt, 3)
+    each_way(&rt, 3, |taken| compare_limits(&rt, taken))
 }
 
 #[test]
 fn four_depots(rt: HostRuntime) -> Result<(), Fail> {
-    compare_all(&rt, 4)
+    each_way(&rt, 4, |taken| compare_limits(&rt, taken))
 }

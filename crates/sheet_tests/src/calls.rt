@@ -1,102 +1,109 @@
 // Calls and reports in short, for the tables of the tests.
 use bounds::Bound;
 use network::Refusal;
-use sheet::{Plan, Report, Sheet, State};
+use sheet::{Call, Goal, MOST_GRANTED, Plan, Report, Sheet, State};
 use std::process::Abort;
 use std::test::*;
 
-pub const MOST: u32 = 2_097_151;
-
-#[derive(Clone, Copy)]
-pub enum Act {
-    // the ends, the chance and the cost
-    Offer(u8, u8, u16, u32),
-    Strike(u8),
-    Restore(u8),
-    // the lane, its chance and its cost
-    Reprice(u8, u16, u32),
-    // the places and the parts
-    Goal(u8, u64),
-    Grant(u32),
-}
-
-// Openings come first, then the set, its cost and its chance.
-#[derive(Clone, Copy)]
-pub enum Told {
-    Drafting,
-    Working(u32),
-    Holding(u32, u32, u32, u64),
-    Found(u32, u32, u32, u64),
-    NoneFound(u32),
-}
-
-pub fn perform<B: Bound>(sheet: &mut Sheet<B>, act: Act) -> Result<(), Refusal> {
-    match act {
-        Act::Offer(left, right, chance, cost) => sheet.offer(left, right, chance, cost),
-        Act::Strike(lane) => sheet.strike(lane),
-        Act::Restore(lane) => sheet.restore(lane),
-        Act::Reprice(lane, chance, cost) => sheet.reprice(lane, chance, cost),
-        Act::Goal(places, parts) => sheet.state_goal(places, parts),
-        Act::Grant(openings) => sheet.grant(openings),
+pub fn offer(left: u8, right: u8, chance: u16, cost: u32) -> Call {
+    Call::Offer {
+        left,
+        right,
+        chance,
+        cost,
     }
 }
 
-fn report_of(told: Told) -> Report {
-    let (state, best, openings) = match told {
-        Told::Drafting => (State::Drafting, None, 0),
-        Told::Working(openings) => (State::Working, None, openings),
-        Told::Holding(openings, set, cost, chance) => {
-            (State::Working, Some(Plan { set, cost, chance }), openings)
-        }
-        Told::Found(openings, set, cost, chance) => {
-            (State::Found, Some(Plan { set, cost, chance }), openings)
-        }
-        Told::NoneFound(openings) => (State::NoneFound, None, openings),
-    };
+pub fn strike(lane: u8) -> Call {
+    Call::Strike { lane }
+}
+
+pub fn restore(lane: u8) -> Call {
+    Call::Restore { lane }
+}
+
+pub fn reprice(lane: u8, chance: u16, cost: u32) -> Call {
+    Call::Reprice { lane, chance, cost }
+}
+
+pub fn state_goal(goal: Goal) -> Call {
+    let Goal { places, parts } = goal;
+    Call::StateGoal { places, parts }
+}
+
+pub fn goal(places: u8, parts: u64) -> Call {
+    state_goal(Goal { places, parts })
+}
+
+pub fn grant(openings: u32) -> Call {
+    Call::Grant { openings }
+}
+
+pub fn drafting() -> Report {
     Report {
-        state,
-        best,
+        state: State::Drafting,
+        best: None,
+        openings: 0,
+    }
+}
+
+pub fn working(openings: u32) -> Report {
+    Report {
+        state: State::Working,
+        best: None,
         openings,
     }
 }
 
-// Every call is answered by the refusal's number beside it, or accepted where that is 0.
+// Still working, with a best set so far.
+pub fn holding(openings: u32, set: u32, cost: u32, chance: u64) -> Report {
+    Report {
+        best: Some(Plan { set, cost, chance }),
+        ..working(openings)
+    }
+}
+
+pub fn found(openings: u32, set: u32, cost: u32, chance: u64) -> Report {
+    Report {
+        state: State::Found,
+        ..holding(openings, set, cost, chance)
+    }
+}
+
+pub fn none_found(openings: u32) -> Report {
+    Report {
+        state: State::NoneFound,
+        ..working(openings)
+    }
+}
+
+// Every call is answered as it says beside it.
 pub fn answers<B: Bound>(
     rt: &impl Abort,
     sheet: &mut Sheet<B>,
-    acts: &[(Act, u8)],
-) -> Result<(), Fail> {
-    for (i, (act, refusal)) in acts.iter().enumerate() {
-        let answer = match perform(sheet, *act) {
-            Ok(()) => 0,
-            Err(refusal) => refusal.number(),
-        };
-        assert_eq!(rt; answer, *refusal, "call {i}");
+    calls: &[(Call, Result<(), Refusal>)],
+) {
+    for (i, (call, answer)) in calls.iter().enumerate() {
+        assert_eq!(rt; sheet.call(*call), *answer, "call {i}");
     }
-    Ok(())
-}
-
-pub fn tells<B: Bound>(rt: &impl Abort, sheet: &Sheet<B>, told: Told) -> Result<(), Fail> {
-    assert_eq!(rt; sheet.report(), report_of(told));
-    Ok(())
-}
-
-// The report of the whole work for a goal.
-pub fn seek<B: Bound>(sheet: &mut Sheet<B>, places: u8, parts: u64) -> Result<Report, Fail> {
-    perform(sheet, Act::Goal(places, parts))?;
-    perform(sheet, Act::Grant(MOST))?;
-    Ok(sheet.report())
 }
 
 // Every call is accepted, and leaves the report beside it.
 pub fn follow<B: Bound>(
     rt: &impl Abort,
     sheet: &mut Sheet<B>,
-    steps: &[(Act, Told)],
+    steps: &[(Call, Report)],
 ) -> Result<(), Fail> {
-    for (i, (act, told)) in steps.iter().enumerate() {
-        perform(sheet, *act)?;
-        assert_eq!(rt; sheet.report(), report_of(*told), "step {i}");
+    for (i, (call, report)) in steps.iter().enumerate() {
+        sheet.call(*call)?;
+        assert_eq!(rt; sheet.report(), *report, "step {i}");
     }
     Ok(())
+}
+
+// The report of the whole work for a goal.
+pub fn seek<B: Bound>(sheet: &mut Sheet<B>, goal: Goal) -> Result<Report, Fail> {
+    sheet.call(state_goal(goal))?;
+    sheet.grant(MOST_GRANTED)?;
+    Ok(sheet.report())
 }

@@ -1,7 +1,8 @@
-// The goals and limits of the comparison with the enumeration, and the report that is due.
-use crate::enumeration::{SETS, cheapest};
+// What is compared with the enumeration: lanes with a limit, goals, and the report that is due.
 use network::Lane;
 use sheet::{Plan, Report, State};
+use std::fmt;
+use trials::{Layout, SETS};
 
 // The most lanes in a set, and how many parts of ten to the power of five one part of the full scale is.
 pub const LIMITS: [(u8, u64); 2] = [(2, 1000), (5, 1)];
@@ -26,32 +27,64 @@ pub const GOALS: [(u8, u64, u64); GOAL_COUNT] = [
     (2, 99, 99_000),
 ];
 
-// A family's lanes with the chances of their sets, and how many of them a set may have. The way names it among its family.
+// The lanes that are taken in one of the ways.
+#[derive(Clone, Copy)]
+pub struct Taken<'a> {
+    pub way: u32,
+    pub layout: Layout<'a>,
+}
+
+impl fmt::Display for Taken<'_> {
+    fn fmt<W: fmt::Write>(&self, f: &mut fmt::Formatter<W>) -> fmt::Result {
+        write!(f, "depots {}, way {}", self.layout.depots, self.way)
+    }
+}
+
+// Lanes with the chances of their sets, and how many of them a set may have.
 #[derive(Clone, Copy)]
 pub struct Case<'a> {
-    pub depots: u8,
-    pub way: u32,
-    pub lanes: &'a [Lane],
-    pub chances: &'a [u64; SETS],
+    pub taken: Taken<'a>,
+    pub chances: &'a [u64; SETS as usize],
     pub most: u8,
     pub unit: u64,
 }
 
-// The report that is due, but for the openings, which it tells as given.
-pub fn due(case: Case, least: u64, openings: u32) -> Report {
-    match cheapest(case.lanes, case.chances, case.most, least) {
-        Some(plan) => Report {
-            state: State::Found,
-            best: Some(Plan {
-                chance: plan.chance / case.unit.max(1),
-                ..plan
-            }),
+impl fmt::Display for Case<'_> {
+    fn fmt<W: fmt::Write>(&self, f: &mut fmt::Formatter<W>) -> fmt::Result {
+        write!(f, "{}, at most {}", self.taken, self.most)
+    }
+}
+
+impl Case<'_> {
+    // Of equally cheap sets the one with the lowest number.
+    fn cheapest(&self, least: u64) -> Option<Plan> {
+        let layout = self.taken.layout;
+        let standing = layout.standing();
+        let most = u32::from(self.most);
+        (0..SETS)
+            .zip(*self.chances)
+            .filter(|(set, chance)| {
+                set & standing == *set && set.count_ones() <= most && *chance >= least
+            })
+            .map(|(set, chance)| Plan {
+                set,
+                cost: layout.cost(set),
+                chance: chance / self.unit.max(1),
+            })
+            .min_by_key(|plan| plan.cost)
+    }
+
+    // The report that is due, but for the openings, which it tells as given.
+    pub fn due(&self, least: u64, openings: u32) -> Report {
+        let best = self.cheapest(least);
+        let state = match best {
+            Some(_) => State::Found,
+            None => State::NoneFound,
+        };
+        Report {
+            state,
+            best,
             openings,
-        },
-        None => Report {
-            state: State::NoneFound,
-            best: None,
-            openings,
-        },
+        }
     }
 }

@@ -1,14 +1,16 @@
 // All sheets of up to five lanes that are taken one after the other from a table of six.
-use crate::calls::{Act, perform};
+use crate::cases::Taken;
 use crate::sheets::open;
 use bounds::Bound;
 use network::{Lane, Mark};
 use sheet::Sheet;
-use std::alloc::AllocGlobal;
+use std::alloc::{AllocError, AllocGlobal, Global};
+use std::iter;
 use std::test::*;
+use trials::{LANES, Layout};
 
 // The ways to take up to five lanes from six, repetitions and order counted.
-pub const WAYS: u32 = 9331;
+const WAYS: u32 = 9331;
 
 const TABLE: u32 = 6;
 
@@ -61,49 +63,40 @@ fn lane_at(depots: u8, place: u32) -> Lane {
     }
 }
 
-// The first lanes of five.
-#[derive(Clone, Copy)]
-pub struct Taken {
-    lanes: [Lane; 5],
-    count: usize,
-}
-
-impl Taken {
-    pub fn lanes(&self) -> &[Lane] {
-        let count = self.count.min(5);
-        &self.lanes[0..count]
-    }
-}
-
 // Each way has one number: its digits run from one to six, and the first lane's comes last.
-pub fn take_lanes(depots: u8, way: u32) -> Taken {
-    let mut taken = Taken {
-        lanes: [lane_at(depots, 0); 5],
-        count: 0,
-    };
-    let mut rest = way;
-    for lane in taken.lanes.iter_mut() {
-        if rest > 0 {
-            *lane = lane_at(depots, (rest - 1) % TABLE);
-            rest = (rest - 1) / TABLE;
-            taken.count = taken.count.saturating_add(1);
-        }
-    }
-    taken
+fn take_lanes(heap: Global, depots: u8, way: u32) -> Result<Vec<Lane>, AllocError> {
+    iter::successors(way.checked_sub(1), |rest| (rest / TABLE).checked_sub(1))
+        .take(LANES)
+        .map(|rest| lane_at(depots, rest))
+        .collect(heap)
 }
 
 // Struck lanes are offered first, as any other.
 fn offer_all<B: Bound>(sheet: &mut Sheet<B>, lanes: &[Lane]) -> Result<(), Fail> {
-    let mut number: u8 = 0;
-    for lane in lanes {
-        perform(
-            sheet,
-            Act::Offer(lane.left, lane.right, lane.chance, lane.cost),
-        )?;
+    for (number, lane) in (0..u8::MAX).zip(lanes) {
+        sheet.offer(lane.left, lane.right, lane.chance, lane.cost)?;
         if !lane.mark.stands() {
-            perform(sheet, Act::Strike(number))?;
+            sheet.strike(number)?;
         }
-        number = number.saturating_add(1);
+    }
+    Ok(())
+}
+
+// Calls the comparison with the lanes of each way.
+pub fn each_way<F: Fn(Taken) -> Result<(), Fail>>(
+    rt: &impl AllocGlobal,
+    depots: u8,
+    compare: F,
+) -> Result<(), Fail>
+    requires { F.IsAlwaysCallable compare }
+{
+    for way in 0..WAYS {
+        let lanes = take_lanes(rt.alloc(), depots, way)?;
+        let layout = Layout {
+            depots,
+            lanes: lanes.as_slice(),
+        };
+        compare(Taken { way, layout })?;
     }
     Ok(())
 }
@@ -112,11 +105,10 @@ fn offer_all<B: Bound>(sheet: &mut Sheet<B>, lanes: &[Lane]) -> Result<(), Fail>
 pub fn offered<B: Bound + Drop>(
     rt: &impl AllocGlobal,
     most: u8,
-    depots: u8,
     bound: B,
-    lanes: &[Lane],
+    layout: Layout,
 ) -> Result<Sheet<B>, Fail> {
-    let mut sheet = open(rt, most, depots, bound)?;
-    offer_all(&mut sheet, lanes)?;
+    let mut sheet = open(rt, most, layout.depots, bound)?;
+    offer_all(&mut sheet, layout.lanes)?;
     Ok(sheet)
 }

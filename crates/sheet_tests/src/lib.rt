@@ -10,8 +10,6 @@ mod cases;
 #[cfg(test)]
 mod changes;
 #[cfg(test)]
-mod enumeration;
-#[cfg(test)]
 mod families;
 #[cfg(test)]
 mod goal_refusals;

@@ -1,14 +1,12 @@
 use bounds::Plain;
+use network::Refusal;
 use sheet::{Sheet, SheetRoom};
 use std::test::*;
 
-// The refusal's number, or 0 where the sheet is opened.
-fn opened(rt: &HostRuntime, parts: u16, most: u8, depots: u8) -> Result<u8, Fail> {
+// The refusal, or none where the sheet is opened.
+fn refusal(rt: &HostRuntime, parts: u16, most: u8, depots: u8) -> Result<Option<Refusal>, Fail> {
     let room = SheetRoom::reserve(rt.alloc())?;
-    match Sheet::open(room, parts, most, depots, Plain) {
-        Ok(_) => Ok(0),
-        Err(refusal) => Ok(refusal.number()),
-    }
+    Ok(Sheet::open(room, parts, most, depots, Plain).err())
 }
 
 #[test]
@@ -20,26 +18,30 @@ fn reserves_room(rt: HostRuntime) -> Result<(), Fail> {
 #[test]
 fn opens_up_to_the_limits(rt: HostRuntime) -> Result<(), Fail> {
     let limits = [
-        (100, 9, 2, 0),
-        (100, 10, 2, 2),
-        (100, 1, 2, 0),
-        (100, 0, 2, 2),
-        (11, 9, 2, 1),
-        (10, 4, 1, 3),
-        (10, 4, 2, 0),
-        (10, 4, 10, 0),
-        (10, 4, 11, 3),
+        (100, 9, 2, None),
+        (100, 10, 2, Some(Refusal::SetLimitNotAdmitted)),
+        (100, 1, 2, None),
+        (100, 0, 2, Some(Refusal::SetLimitNotAdmitted)),
+        (11, 9, 2, Some(Refusal::ScaleNotAdmitted)),
+        (10, 4, 1, Some(Refusal::DepotsOutOfRange)),
+        (10, 4, 2, None),
+        (10, 4, 10, None),
+        (10, 4, 11, Some(Refusal::DepotsOutOfRange)),
     ];
-    for (parts, most, depots, refusal) in limits {
-        assert_eq!(rt; opened(&rt, parts, most, depots)?, refusal);
+    for (parts, most, depots, refused) in limits {
+        assert_eq!(rt; refusal(&rt, parts, most, depots)?, refused);
     }
     Ok(())
 }
 
 #[test]
 fn checks_scale_then_limit_then_depots(rt: HostRuntime) -> Result<(), Fail> {
-    for (parts, most, refusal) in [(11, 0, 1), (11, 4, 1), (10, 0, 2)] {
-        assert_eq!(rt; opened(&rt, parts, most, 1)?, refusal);
+    for (parts, most, refused) in [
+        (11, 0, Refusal::ScaleNotAdmitted),
+        (11, 4, Refusal::ScaleNotAdmitted),
+        (10, 0, Refusal::SetLimitNotAdmitted),
+    ] {
+        assert_eq!(rt; refusal(&rt, parts, most, 1)?, Some(refused));
     }
     Ok(())
 }

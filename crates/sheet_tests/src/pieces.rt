@@ -1,10 +1,11 @@
 // Grants in uneven pieces end as one grant does, and tell the openings granted so far on the way.
-use crate::calls::{Act, perform, seek};
-use crate::families::{WAYS, offered, take_lanes};
+use crate::calls::{seek, state_goal};
+use crate::cases::Taken;
+use crate::families::{each_way, offered};
 use bounds::{Bound, Depot, Lesser, Plain, Whole};
-use network::Lane;
-use sheet::{Report, Sheet, State};
+use sheet::{Goal, Report, Sheet, State};
 use std::alloc::AllocGlobal;
+use std::fmt;
 use std::process::Abort;
 use std::test::*;
 
@@ -13,12 +14,17 @@ const MOST_LANES: u8 = 5;
 // One to eleven openings make 66, and five lanes take 63 at most.
 const LARGEST_PIECE: u32 = 11;
 
-// What a failed comparison names: the family, the way among it, and the bound.
+// What a failed comparison names: the lanes, and the bound.
 #[derive(Clone, Copy)]
 struct Place<'a> {
-    depots: u8,
-    way: u32,
+    taken: Taken<'a>,
     bound: &'a str,
+}
+
+impl fmt::Display for Place<'_> {
+    fn fmt<W: fmt::Write>(&self, f: &mut fmt::Formatter<W>) -> fmt::Result {
+        write!(f, "{}, {}", self.taken, self.bound)
+    }
 }
 
 fn grant_pieces<B: Bound>(
@@ -27,29 +33,16 @@ fn grant_pieces<B: Bound>(
     whole: Report,
     place: Place,
 ) -> Result<(), Fail> {
-    let Place { depots, way, bound } = place;
     let mut granted: u32 = 0;
     for piece in 1..=LARGEST_PIECE {
-        perform(sheet, Act::Grant(piece))?;
+        sheet.grant(piece)?;
         granted = granted.saturating_add(piece);
         let report = sheet.report();
-        assert_eq!(rt;
-            report.openings,
-            granted.min(whole.openings),
-            "depots {depots}, way {way}, {bound}"
-        );
-        let works = matches!(report.state, State::Working);
-        assert_eq!(rt;
-            works,
-            granted < whole.openings,
-            "depots {depots}, way {way}, {bound}"
-        );
+        assert_eq!(rt; report.openings, granted.min(whole.openings), "{place}");
+        let works = report.state == State::Working;
+        assert_eq!(rt; works, granted < whole.openings, "{place}");
     }
-    assert_eq!(rt;
-        sheet.report(),
-        whole,
-        "depots {depots}, way {way}, {bound}"
-    );
+    assert_eq!(rt; sheet.report(), whole, "{place}");
     Ok(())
 }
 
@@ -59,8 +52,9 @@ fn compare_goals<B: Bound>(
     place: Place,
 ) -> Result<(), Fail> {
     for (places, parts) in [(1, 5), (1, 8), (2, 95)] {
-        let whole = seek(sheet, places, parts)?;
-        perform(sheet, Act::Goal(places, parts))?;
+        let goal = Goal { places, parts };
+        let whole = seek(sheet, goal)?;
+        sheet.call(state_goal(goal))?;
         grant_pieces(rt, sheet, whole, place)?;
     }
     Ok(())
@@ -69,38 +63,33 @@ fn compare_goals<B: Bound>(
 fn compare<B: Bound + Drop>(
     rt: &(impl Abort + AllocGlobal),
     bound: B,
-    lanes: &[Lane],
     place: Place,
 ) -> Result<(), Fail> {
-    let mut sheet = offered(rt, MOST_LANES, place.depots, bound, lanes)?;
+    let mut sheet = offered(rt, MOST_LANES, bound, place.taken.layout)?;
     compare_goals(rt, &mut sheet, place)
 }
 
-fn compare_all(rt: &(impl Abort + AllocGlobal), depots: u8) -> Result<(), Fail> {
-    let lesser = Lesser {
+fn compare_bounds(rt: &(impl Abort + AllocGlobal), taken: Taken) -> Result<(), Fail> {
+    let plain = Place {
+        taken,
+        bound: "plain",
+    };
+    compare(rt, Plain, plain)?;
+    let bound = Lesser {
         first: Depot,
         second: Whole,
     };
-    for way in 0..WAYS {
-        let taken = take_lanes(depots, way);
-        let plain = Place {
-            depots,
-            way,
-            bound: "plain",
-        };
-        compare(rt, Plain, taken.lanes(), plain)?;
-        let place = Place {
-            bound: "lesser",
-            ..plain
-        };
-        compare(rt, lesser, taken.lanes(), place)?;
-    }
-    Ok(())
+    let lesser = Place {
+        taken,
+        bound: "lesser",
+    };
+    compare(rt, bound, lesser)
 }
 
 #[test]
 fn end_as_one_grant(rt: HostRuntime) -> Result<(), Fail> {
-    compare_all(&rt, 2)?;
-    compare_all(&rt, 3)?;
-    compare_all(&rt, 4)
+    for depots in 2..=4 {
+        each_way(&rt, depots, |taken| compare_bounds(&rt, taken))?;
+    }
+    Ok(())
 }

@@ -1,83 +1,84 @@
 // Refusals of offers and of changes of lanes, each at its limit and just inside, and which of two comes first.
-use crate::calls::{Act, answers};
+use crate::calls::{answers, offer, reprice, restore, strike};
 use crate::sheets::{open, open_three, open_twenty};
 use bounds::Plain;
+use network::Refusal;
 use std::test::*;
-
-const OFFERS: [(Act, u8); 12] = [
-    (Act::Offer(0, 3, 9, 4), 4),
-    (Act::Offer(3, 0, 9, 4), 4),
-    (Act::Offer(1, 1, 9, 4), 4),
-    (Act::Offer(0, 2, 9, 4), 0),
-    (Act::Offer(0, 1, 0, 4), 5),
-    (Act::Offer(0, 1, 1, 4), 0),
-    (Act::Offer(0, 1, 11, 4), 5),
-    (Act::Offer(0, 1, 10, 4), 0),
-    (Act::Offer(0, 1, 9, 1_000_001), 6),
-    (Act::Offer(0, 1, 9, 1_000_000), 0),
-    (Act::Offer(3, 0, 11, 1_000_001), 4),
-    (Act::Offer(0, 1, 11, 1_000_001), 5),
-];
 
 #[test]
 fn offers(rt: HostRuntime) -> Result<(), Fail> {
     let mut sheet = open(&rt, 4, 3, Plain)?;
-    answers(&rt, &mut sheet, &OFFERS)
+    let calls = [
+        (offer(0, 3, 9, 4), Err(Refusal::EndsUnfit)),
+        (offer(3, 0, 9, 4), Err(Refusal::EndsUnfit)),
+        (offer(1, 1, 9, 4), Err(Refusal::EndsUnfit)),
+        (offer(0, 2, 9, 4), Ok(())),
+        (offer(0, 1, 0, 4), Err(Refusal::ChanceOutOfRange)),
+        (offer(0, 1, 1, 4), Ok(())),
+        (offer(0, 1, 11, 4), Err(Refusal::ChanceOutOfRange)),
+        (offer(0, 1, 10, 4), Ok(())),
+        (offer(0, 1, 9, 1_000_001), Err(Refusal::CostTooHigh)),
+        (offer(0, 1, 9, 1_000_000), Ok(())),
+        (offer(3, 0, 11, 1_000_001), Err(Refusal::EndsUnfit)),
+        (offer(0, 1, 11, 1_000_001), Err(Refusal::ChanceOutOfRange)),
+    ];
+    answers(&rt, &mut sheet, &calls);
+    Ok(())
 }
-
-// Struck lanes count too.
-const AFTER_TWENTY: [(Act, u8); 7] = [
-    (Act::Offer(0, 1, 9, 4), 7),
-    (Act::Offer(0, 0, 0, 1_000_001), 4),
-    (Act::Offer(0, 1, 0, 1_000_001), 5),
-    (Act::Offer(0, 1, 9, 1_000_001), 6),
-    (Act::Strike(20), 8),
-    (Act::Strike(19), 0),
-    (Act::Offer(0, 1, 9, 4), 7),
-];
 
 #[test]
 fn twenty_lanes_are_all(rt: HostRuntime) -> Result<(), Fail> {
     let mut sheet = open_twenty(&rt)?;
-    answers(&rt, &mut sheet, &AFTER_TWENTY)
+    // Struck lanes count too.
+    let calls = [
+        (offer(0, 1, 9, 4), Err(Refusal::LanesFull)),
+        (offer(0, 0, 0, 1_000_001), Err(Refusal::EndsUnfit)),
+        (offer(0, 1, 0, 1_000_001), Err(Refusal::ChanceOutOfRange)),
+        (offer(0, 1, 9, 1_000_001), Err(Refusal::CostTooHigh)),
+        (strike(20), Err(Refusal::NumberNotGiven)),
+        (strike(19), Ok(())),
+        (offer(0, 1, 9, 4), Err(Refusal::LanesFull)),
+    ];
+    answers(&rt, &mut sheet, &calls);
+    Ok(())
 }
-
-const LANE_CHANGES: [(Act, u8); 19] = [
-    (Act::Strike(3), 8),
-    (Act::Restore(3), 8),
-    (Act::Reprice(3, 9, 4), 8),
-    (Act::Reprice(3, 0, 1_000_001), 8),
-    (Act::Reprice(3, 9, 1_000_001), 8),
-    (Act::Strike(255), 8),
-    (Act::Restore(2), 9),
-    (Act::Strike(2), 0),
-    (Act::Strike(2), 9),
-    (Act::Reprice(2, 10, 7), 0),
-    (Act::Strike(2), 9),
-    (Act::Restore(2), 0),
-    (Act::Restore(2), 9),
-    (Act::Reprice(2, 0, 7), 5),
-    (Act::Reprice(2, 1, 7), 0),
-    (Act::Reprice(2, 11, 1_000_001), 5),
-    (Act::Reprice(2, 10, 1_000_001), 6),
-    (Act::Reprice(2, 10, 1_000_000), 0),
-    (Act::Restore(0), 9),
-];
-
-const WITHOUT_LANES: [(Act, u8); 3] = [
-    (Act::Strike(0), 8),
-    (Act::Restore(0), 8),
-    (Act::Reprice(0, 9, 4), 8),
-];
 
 #[test]
 fn changes_of_lanes(rt: HostRuntime) -> Result<(), Fail> {
     let mut sheet = open_three(&rt)?;
-    answers(&rt, &mut sheet, &LANE_CHANGES)
+    let calls = [
+        (strike(3), Err(Refusal::NumberNotGiven)),
+        (restore(3), Err(Refusal::NumberNotGiven)),
+        (reprice(3, 9, 4), Err(Refusal::NumberNotGiven)),
+        (reprice(3, 0, 1_000_001), Err(Refusal::NumberNotGiven)),
+        (reprice(3, 9, 1_000_001), Err(Refusal::NumberNotGiven)),
+        (strike(255), Err(Refusal::NumberNotGiven)),
+        (restore(2), Err(Refusal::MarkedAlready)),
+        (strike(2), Ok(())),
+        (strike(2), Err(Refusal::MarkedAlready)),
+        (reprice(2, 10, 7), Ok(())),
+        (strike(2), Err(Refusal::MarkedAlready)),
+        (restore(2), Ok(())),
+        (restore(2), Err(Refusal::MarkedAlready)),
+        (reprice(2, 0, 7), Err(Refusal::ChanceOutOfRange)),
+        (reprice(2, 1, 7), Ok(())),
+        (reprice(2, 11, 1_000_001), Err(Refusal::ChanceOutOfRange)),
+        (reprice(2, 10, 1_000_001), Err(Refusal::CostTooHigh)),
+        (reprice(2, 10, 1_000_000), Ok(())),
+        (restore(0), Err(Refusal::MarkedAlready)),
+    ];
+    answers(&rt, &mut sheet, &calls);
+    Ok(())
 }
 
 #[test]
 fn changes_without_lanes(rt: HostRuntime) -> Result<(), Fail> {
     let mut sheet = open(&rt, 4, 3, Plain)?;
-    answers(&rt, &mut sheet, &WITHOUT_LANES)
+    let calls = [
+        (strike(0), Err(Refusal::NumberNotGiven)),
+        (restore(0), Err(Refusal::NumberNotGiven)),
+        (reprice(0, 9, 4), Err(Refusal::NumberNotGiven)),
+    ];
+    answers(&rt, &mut sheet, &calls);
+    Ok(())
 }
