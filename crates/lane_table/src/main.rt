@@ -6,14 +6,22 @@ use bounds::{Bound, Depot, Lesser, Plain, Question, Whole};
 use network::{LaneRoom, Mark, Network, Refusal};
 use reliability::{chance, connected, joining_cost};
 use std::alloc::{AllocError, Global};
+use std::fmt;
 use worked_examples::{Answer, answers, three_depots};
 
-// What the table tells of a set.
+// What the table tells of a set. The table of a sheet asks by other calls: one trait over both would be longer than the two.
 #[derive(Drop)]
 struct Row {
     cost: u32,
     chance: u64,
     connected: bool,
+}
+
+impl fmt::Display for Row {
+    fn fmt<W: fmt::Write>(&self, f: &mut fmt::Formatter<W>) -> fmt::Result {
+        let connected = if self.connected { "yes" } else { "no" };
+        write!(f, "{:>4}  {:>15}  {connected}", self.cost, self.chance)
+    }
 }
 
 fn ask(network: &Network, set: u32) -> Result<Row, Refusal> {
@@ -24,17 +32,28 @@ fn ask(network: &Network, set: u32) -> Result<Row, Refusal> {
     })
 }
 
+// What joins all depots at the least cost, if anything does.
+#[derive(Drop)]
+struct JoiningCost(Option<u32>);
+
+impl fmt::Display for JoiningCost {
+    fn fmt<W: fmt::Write>(&self, f: &mut fmt::Formatter<W>) -> fmt::Result {
+        match self.0 {
+            Some(cost) => write!(f, "joining cost {cost}"),
+            None => write!(f, "joining cost absent"),
+        }
+    }
+}
+
 // The numbers of the set's lanes, as "0 2".
 fn name_lanes(heap: Global, network: &Network, set: u32) -> Result<String, AllocError> {
     let mut names = String::new(heap);
-    for i in 0..network.lanes().len() {
-        if i < 32 && (set >> i) % 2 == 1 {
-            if !names.is_empty() {
-                names.push(' ')?;
-            }
-            let name = i.to_string(heap)?;
-            names.push_str(name.as_str())?;
+    let given = 0..network.lanes().len();
+    for number in given.filter(|number| *number < 32 && (set >> *number) % 2 == 1) {
+        if !names.is_empty() {
+            names.push(' ')?;
         }
+        write!(names, "{number}")?;
     }
     Ok(names)
 }
@@ -42,14 +61,8 @@ fn name_lanes(heap: Global, network: &Network, set: u32) -> Result<String, Alloc
 fn print_row(rt: &HostRuntime, network: &Network, set: u32) -> anyhow::Result<()> {
     let lanes = name_lanes(rt.alloc(), network, set)?;
     match ask(network, set) {
-        Ok(row) => {
-            let connected = if row.connected { "yes" } else { "no" };
-            println!(rt;
-                "{set:>3}  {lanes:<5}  {:>4}  {:>15}  {connected}",
-                row.cost, row.chance
-            )?;
-        }
-        Err(refusal) => println!(rt; "{set:>3}  refusal {}", refusal.number())?,
+        Ok(row) => println!(rt; "{set:>3}  {lanes:<5}  {row}")?,
+        Err(refusal) => println!(rt; "{set:>3}  {refusal}")?,
     }
     Ok(())
 }
@@ -60,10 +73,7 @@ fn print_table(rt: &HostRuntime, network: &Network) -> anyhow::Result<()> {
     for set in 0..8 {
         print_row(rt, network, set)?;
     }
-    match joining_cost(network) {
-        Some(cost) => println!(rt; "joining cost {cost}")?,
-        None => println!(rt; "joining cost absent")?,
-    }
+    println!(rt; "{}", JoiningCost(joining_cost(network)))?;
     Ok(())
 }
 
@@ -96,8 +106,7 @@ fn print_examples(rt: &HostRuntime) -> anyhow::Result<()> {
     for answer in told {
         match answer {
             Answer::Chance(parts) => println!(rt; "  chance {parts}")?,
-            Answer::JoiningCost(Some(cost)) => println!(rt; "  joining cost {cost}")?,
-            Answer::JoiningCost(None) => println!(rt; "  joining cost absent")?,
+            Answer::JoiningCost(cost) => println!(rt; "  {}", JoiningCost(cost))?,
             Answer::Bound(number) => println!(rt; "  depot bound {number}")?,
         }
     }

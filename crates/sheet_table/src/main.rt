@@ -4,43 +4,86 @@
 
 use bounds::{Bound, Depot, Plain, Whole};
 use network::Refusal;
-use sheet::{MOST_GRANTED, Report, Sheet, SheetRoom, State};
+use sheet::{Goal, MOST_GRANTED, Report, Sheet, SheetRoom, State};
 use sheet_examples::{Rooms, follow, open_three, reports};
+use std::fmt;
 
-// What the table tells of a set.
+// What the table tells of a set. The table of lanes asks by other calls: one trait over both would be longer than the two.
 #[derive(Drop)]
 struct Row {
     cost: u32,
     chance: u64,
+    full: u64,
     connected: bool,
+}
+
+impl fmt::Display for Row {
+    fn fmt<W: fmt::Write>(&self, f: &mut fmt::Formatter<W>) -> fmt::Result {
+        let connected = if self.connected { "yes" } else { "no" };
+        write!(
+            f,
+            "cost {} chance {} of {} connected {connected}",
+            self.cost, self.chance, self.full
+        )
+    }
 }
 
 fn ask<B>(sheet: &Sheet<B>, set: u32) -> Result<Row, Refusal> {
     Ok(Row {
         cost: sheet.cost(set)?,
         chance: sheet.chance(set)?,
+        full: sheet.network().scale().full(),
         connected: sheet.connected(set)?,
     })
 }
 
-fn print_row<B>(rt: &HostRuntime, sheet: &Sheet<B>, set: u32) -> anyhow::Result<()> {
-    let full = sheet.network().scale().full();
-    match ask(sheet, set) {
-        Ok(row) => {
-            let connected = if row.connected { "yes" } else { "no" };
-            println!(rt;
-                "set {set} cost {} chance {} of {full} connected {connected}",
-                row.cost, row.chance
-            )?;
+// A report with the full scale, in parts of which it tells a chance.
+#[derive(Drop)]
+struct Told {
+    report: Report,
+    full: u64,
+}
+
+impl fmt::Display for Told {
+    fn fmt<W: fmt::Write>(&self, f: &mut fmt::Formatter<W>) -> fmt::Result {
+        let openings = self.report.openings;
+        match (self.report.state, self.report.best) {
+            (State::Drafting, _) => write!(f, "drafting"),
+            (State::Working, _) => write!(f, "working openings {openings}"),
+            (State::Found, Some(plan)) => write!(
+                f,
+                "found set {} cost {} chance {} of {} openings {openings}",
+                plan.set, plan.cost, plan.chance, self.full
+            ),
+            (State::Found, None) | (State::NoneFound, _) => write!(f, "none openings {openings}"),
         }
-        Err(refusal) => println!(rt; "set {set} refusal {}", refusal.number())?,
+    }
+}
+
+fn search_whole<B: Bound>(sheet: &mut Sheet<B>, goal: Goal) -> Result<Told, Refusal> {
+    sheet.state_goal(goal.places, goal.parts)?;
+    sheet.grant(MOST_GRANTED)?;
+    Ok(Told {
+        report: sheet.report(),
+        full: sheet.network().scale().full(),
+    })
+}
+
+fn print_answer<T: fmt::Display>(
+    rt: &HostRuntime,
+    answer: &Result<T, Refusal>,
+) -> anyhow::Result<()> {
+    match answer {
+        Ok(told) => println!(rt; "{told}")?,
+        Err(refusal) => println!(rt; "{refusal}")?,
     }
     Ok(())
 }
 
 fn print_table<B>(rt: &HostRuntime, sheet: &Sheet<B>) -> anyhow::Result<()> {
     for set in 0..8 {
-        print_row(rt, sheet, set)?;
+        print!(rt; "set {set} ")?;
+        print_answer(rt, &ask(sheet, set))?;
     }
     match sheet.joining_cost() {
         Some(cost) => println!(rt; "joining cost {cost}")?,
@@ -49,86 +92,52 @@ fn print_table<B>(rt: &HostRuntime, sheet: &Sheet<B>) -> anyhow::Result<()> {
     Ok(())
 }
 
-fn print_report(rt: &HostRuntime, report: Report, full: u64) -> anyhow::Result<()> {
-    let openings = report.openings;
-    match report.state {
-        State::Drafting => println!(rt; "drafting")?,
-        State::Working => println!(rt; "working openings {openings}")?,
-        State::NoneFound => println!(rt; "none openings {openings}")?,
-        State::Found => {
-            if let Some(plan) = report.best {
-                println!(rt;
-                    "found set {} cost {} chance {} of {full} openings {openings}",
-                    plan.set, plan.cost, plan.chance
-                )?;
-            }
-        }
+// Four goals on one sheet.
+fn print_goals(rt: &HostRuntime, sheet: &mut Sheet<Plain>) -> anyhow::Result<()> {
+    let goals = [
+        ("8 of 10", 1, 8),
+        ("82 of 100", 2, 82),
+        ("954 of 1000", 3, 954),
+        ("955 of 1000", 3, 955),
+    ];
+    for (name, places, parts) in goals {
+        print!(rt; "goal {name}: ")?;
+        print_answer(rt, &search_whole(sheet, Goal { places, parts }))?;
     }
     Ok(())
 }
 
-fn search_whole<B: Bound>(sheet: &mut Sheet<B>, places: u8, parts: u64) -> Result<(), Refusal> {
-    sheet.state_goal(places, parts)?;
-    sheet.grant(MOST_GRANTED)
-}
-
-fn print_search<B: Bound>(
-    rt: &HostRuntime,
-    sheet: &mut Sheet<B>,
-    places: u8,
-    parts: u64,
-) -> anyhow::Result<()> {
-    let full = sheet.network().scale().full();
-    match search_whole(sheet, places, parts) {
-        Ok(()) => print_report(rt, sheet.report(), full),
-        Err(refusal) => {
-            println!(rt; "refusal {}", refusal.number())?;
-            Ok(())
-        }
-    }
-}
-
-// Four goals on one sheet.
-fn print_goals(rt: &HostRuntime, sheet: &mut Sheet<Plain>) -> anyhow::Result<()> {
-    print!(rt; "goal 8 of 10: ")?;
-    print_search(rt, sheet, 1, 8)?;
-    print!(rt; "goal 82 of 100: ")?;
-    print_search(rt, sheet, 2, 82)?;
-    print!(rt; "goal 954 of 1000: ")?;
-    print_search(rt, sheet, 3, 954)?;
-    print!(rt; "goal 955 of 1000: ")?;
-    print_search(rt, sheet, 3, 955)
-}
-
-// One goal under three bounds, which differ in the openings they take.
-fn print_openings(rt: &HostRuntime) -> anyhow::Result<()> {
-    let heap = rt.alloc();
-    let mut plain = open_three(SheetRoom::reserve(heap)?, Plain);
-    print!(rt; "goal 8 of 10 under plain: ")?;
-    print_search(rt, &mut plain, 1, 8)?;
-    let mut depot = open_three(SheetRoom::reserve(heap)?, Depot);
-    print!(rt; "goal 8 of 10 under depot: ")?;
-    print_search(rt, &mut depot, 1, 8)?;
-    let mut whole = open_three(SheetRoom::reserve(heap)?, Whole);
-    print!(rt; "goal 8 of 10 under whole: ")?;
-    print_search(rt, &mut whole, 1, 8)
+// One goal, which takes other openings under each bound.
+fn print_openings<B: Bound + Drop>(rt: &HostRuntime, name: &str, bound: B) -> anyhow::Result<()> {
+    let mut sheet = open_three(SheetRoom::reserve(rt.alloc())?, bound);
+    let goal = Goal {
+        places: 1,
+        parts: 8,
+    };
+    print!(rt; "goal 8 of 10 under {name}: ")?;
+    print_answer(rt, &search_whole(&mut sheet, goal))
 }
 
 fn print_searches(rt: &HostRuntime, full: u64) -> anyhow::Result<()> {
     println!(rt; "worked searches")?;
     for report in reports(Rooms::reserve(rt.alloc())?) {
-        print!(rt; "  ")?;
-        print_report(rt, report, full)?;
+        println!(rt; "  {}", Told { report, full })?;
     }
     let followed = follow(SheetRoom::reserve(rt.alloc())?);
-    print!(rt; "a run with refused calls: ")?;
-    print_report(rt, followed.report, full)
+    let told = Told {
+        report: followed.report,
+        full,
+    };
+    println!(rt; "a run with refused calls: {told}")?;
+    Ok(())
 }
 
 fn main(rt: HostRuntime) -> anyhow::Result<()> {
     let mut sheet = open_three(SheetRoom::reserve(rt.alloc())?, Plain);
     print_table(&rt, &sheet)?;
     print_goals(&rt, &mut sheet)?;
-    print_openings(&rt)?;
+    print_openings(&rt, "plain", Plain)?;
+    print_openings(&rt, "depot", Depot)?;
+    print_openings(&rt, "whole", Whole)?;
     print_searches(&rt, sheet.network().scale().full())
 }
