@@ -26,6 +26,13 @@ struct Case {
     goal: Goal,
 }
 
+impl Case {
+    // The least chance, or one of the four above it.
+    fn chance_by(self, number: u32) -> u16 {
+        u16::from(self.low) + (number % 5) as u16
+    }
+}
+
 const TENTHS: Case = Case {
     parts: 10,
     most: 18,
@@ -53,17 +60,22 @@ fn find_case(parts: u16) -> anyhow::Result<Case> {
         .context("the scale is 10 or 16")
 }
 
-fn offer(
-    sheet: &mut Planner,
+// A sheet whose lanes are drawn.
+#[derive(Drop)]
+struct Drawn {
+    sheet: Planner,
     case: Case,
-    draws: &mut Draws,
-    left: u8,
-    step: u8,
-) -> Result<(), Refusal> {
-    let right = (u32::from(left) + u32::from(step)) % u32::from(DEPOTS);
-    let chance = u16::from(case.low) + (draws.draw_high() % 5) as u16;
-    let cost = 1 + draws.draw_high() % 1000;
-    sheet.offer(left, right as u8, chance, cost)
+    draws: Draws,
+}
+
+impl Drawn {
+    // A lane from this depot to the one that is so many steps on.
+    fn offer(&mut self, left: u8, step: u8) -> Result<(), Refusal> {
+        let right = (u32::from(left) + u32::from(step)) % u32::from(DEPOTS);
+        let chance = self.case.chance_by(self.draws.draw_high());
+        let cost = 1 + self.draws.draw_high() % 1000;
+        self.sheet.offer(left, right as u8, chance, cost)
+    }
 }
 
 // A ring of ten depots, and ten chords.
@@ -73,16 +85,20 @@ fn build(heap: Global, case: Case, number: u32) -> anyhow::Result<Planner> {
         second: Whole,
     };
     let room = SheetRoom::reserve(heap)?;
-    let mut sheet = Sheet::open(room, case.parts, case.most, DEPOTS, bound)?;
-    let mut draws = Draws { last: number };
+    let mut drawn = Drawn {
+        sheet: Sheet::open(room, case.parts, case.most, DEPOTS, bound)?,
+        case,
+        draws: Draws { last: number },
+    };
     for left in 0..DEPOTS {
-        offer(&mut sheet, case, &mut draws, left, 1)?;
+        drawn.offer(left, 1)?;
     }
     for _ in 0..CHORDS {
-        let left = (draws.draw_high() % 10) as u8;
-        let step = 2 + (draws.draw_high() % 7) as u8;
-        offer(&mut sheet, case, &mut draws, left, step)?;
+        let left = (drawn.draws.draw_high() % 10) as u8;
+        let step = 2 + (drawn.draws.draw_high() % 7) as u8;
+        drawn.offer(left, step)?;
     }
+    let Drawn { sheet, .. } = drawn;
     Ok(sheet)
 }
 
