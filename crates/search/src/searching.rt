@@ -1,21 +1,17 @@
 // A search in place: its pending branches, its best set and its openings.
-ghost use Rattle.std.specs.Prelude.{◌≡◌, ◌≤◌, [], vec_capacity};
-ghost use Rattle.search.specs.Keeping.{most_pending};
-
 mod calls;
 mod openings;
 mod questions;
 
 use crate::branches::Branch;
+use rooms::Room;
 use std::marker::Model;
 
-// The memory of a search's branches, reserved before there is one.
-#[derive(Drop)]
-pub struct SearchRoom {
-    pending: Vec<Branch>,
-    ghost empty: { pending.items ≡ [] },
-    ghost roomy: { most_pending ≤ vec_capacity pending },
-}
+// One more than the most lanes of a network.
+const MOST_PENDING: usize = 21;
+
+// The memory of a search's branches.
+pub type SearchRoom = Room<Branch, MOST_PENDING>;
 
 // The newest branch is the last.
 #[derive(Drop)]

@@ -103,7 +103,7 @@ fn build(heap: Global, case: Case, number: u32) -> anyhow::Result<Planner> {
 }
 
 fn search(sheet: &mut Planner, goal: Goal) -> Result<Report, Refusal> {
-    sheet.state_goal(goal.places, goal.parts)?;
+    sheet.state_goal(goal)?;
     sheet.grant(MOST_GRANTED)?;
     Ok(sheet.report())
 }

@@ -3,7 +3,7 @@ use Rattle.std.specs.Prelude.{ℕ, cond, List, length, Some, None, Ok, Err, Opti
 use Rattle.network.specs.Lanes.{most_lanes}
 use Rattle.network.specs.declared.refusals.Refusal.{Refusal}
 use Rattle.bounds.specs.Questions.{Asked}
-use Rattle.sheet.specs.Calls.{after, carried, opened, opening_refusal, verdict}
+use Rattle.sheet.specs.Calls.{after, carried, goal_of, opened, opening_refusal, verdict}
 use Rattle.sheet.specs.Models.{Model}
 use Rattle.sheet.specs.declared.words.Call.{Call}
 use Rattle.sheet.specs.declared.words.Call.TheVariants.{Offer, Strike, StateGoal}
@@ -50,7 +50,7 @@ lane_by m body =
 -- ---- kind 3
 
 abbrev pub goal_by : Model → List ℕ → Result Model Cause
-goal_by m body = called m (StateGoal (places_in body) (parts_in body))
+goal_by m body = called m (StateGoal (goal_of (places_in body) (parts_in body)))
 
 -- ---- which kinds may come next
 

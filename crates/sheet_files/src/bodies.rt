@@ -9,7 +9,7 @@ use crate::faults::Cause;
 use bounds::Bound;
 use network::Mark;
 use records::Misfit;
-use sheet::{Sheet, SheetRoom};
+use sheet::{Goal, Sheet, SheetRoom};
 
 // Depots, K and S.
 pub fn open_sheet<B: Bound + Drop>(
@@ -63,6 +63,9 @@ pub fn state_goal<B: Bound>(sheet: &mut Sheet<B>, body: &[u8]) -> Result<(), Cau
         unreachable()
     };
     let parts = u64::from_le_bytes([*g0, *g1, *g2, *g3, *g4, *g5, *g6, *g7]);
-    sheet.state_goal(*places, parts)?;
+    sheet.state_goal(Goal {
+        places: *places,
+        parts,
+    })?;
     Ok(())
 }

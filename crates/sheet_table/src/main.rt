@@ -61,7 +61,7 @@ impl fmt::Display for Told {
 }
 
 fn search_whole<B: Bound>(sheet: &mut Sheet<B>, goal: Goal) -> Result<Told, Refusal> {
-    sheet.state_goal(goal.places, goal.parts)?;
+    sheet.state_goal(goal)?;
     sheet.grant(MOST_GRANTED)?;
     Ok(Told {
         report: sheet.report(),

@@ -26,13 +26,8 @@ pub fn reprice(lane: u8, chance: u16, cost: u32) -> Call {
     Call::Reprice { lane, chance, cost }
 }
 
-pub fn state_goal(goal: Goal) -> Call {
-    let Goal { places, parts } = goal;
-    Call::StateGoal { places, parts }
-}
-
 pub fn goal(places: u8, parts: u64) -> Call {
-    state_goal(Goal { places, parts })
+    Call::StateGoal(Goal { places, parts })
 }
 
 pub fn grant(openings: u32) -> Call {
@@ -103,7 +98,7 @@ pub fn follow<B: Bound>(
 
 // The report of the whole work for a goal.
 pub fn seek<B: Bound>(sheet: &mut Sheet<B>, goal: Goal) -> Result<Report, Fail> {
-    sheet.call(state_goal(goal))?;
+    sheet.state_goal(goal)?;
     sheet.grant(MOST_GRANTED)?;
     Ok(sheet.report())
 }

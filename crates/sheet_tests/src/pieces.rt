@@ -1,5 +1,5 @@
 // Grants in uneven pieces end as one grant does, and tell the openings granted so far on the way.
-use crate::calls::{seek, state_goal};
+use crate::calls::seek;
 use crate::cases::Taken;
 use crate::families::{each_way, offered};
 use bounds::{Bound, Depot, Lesser, Plain, Whole};
@@ -54,7 +54,7 @@ fn compare_goals<B: Bound>(
     for (places, parts) in [(1, 5), (1, 8), (2, 95)] {
         let goal = Goal { places, parts };
         let whole = seek(sheet, goal)?;
-        sheet.call(state_goal(goal))?;
+        sheet.state_goal(goal)?;
         grant_pieces(rt, sheet, whole, place)?;
     }
     Ok(())

@@ -1,36 +1,19 @@
 // The way in for a search, and how it starts.
-ghost use Rattle.std.specs.Prelude.{◌≡◌, ◌≤◌, [], IfOk, vec_capacity};
+ghost use Rattle.std.specs.Prelude.{◌≡◌};
 ghost use Rattle.network.specs.Networks.{lanes_of};
-ghost use Rattle.search.specs.Keeping.{most_pending};
 ghost use Rattle.search.specs.Opening.{none_started, start_over};
 
 use crate::branches::Branch;
 use crate::searching::{Search, SearchRoom};
 use network::Network;
-use std::alloc::{AllocError, Global};
-
-impl SearchRoom {
-    // The only call on a search that can lack memory.
-    pub fn reserve(heap: Global) -> Result<SearchRoom, AllocError>
-        ensures { IfOk result (λ room. (room.pending.items ≡ []) × (most_pending ≤ vec_capacity room.pending)) }
-    {
-        Ok(SearchRoom {
-            pending: Vec::with_capacity(heap, Search::MOST_PENDING)?,
-        })
-    }
-}
 
 impl Search {
-    // One more than the most lanes of a network.
-    pub const MOST_PENDING: usize = 21;
-
     // Nothing is pending.
     pub fn new(room: SearchRoom) -> Search
         ensures { result ≡ none_started }
     {
-        let SearchRoom { pending } = room;
         Search {
-            pending,
+            pending: room.into_items(),
             best: None,
             openings: 0,
         }
