@@ -1,15 +1,14 @@
 -- The chance that all lanes at a depot fail, worked out lane by lane.
-use Rattle.std.proofs.Common.{◌≡◌, ℕ, ◌+◌, ◌-◌, ◌*◌, ◌/◌, ◌%◌, ◌^◌, ◌<◌, ◌≤◌, min, Bool, true, false, ◌&&◌, eqb, leb, List, [], ◌∷◌, ◌++◌, length, get_or, take, sym, refl, ap, ◌∙◌, subst, ap₂, append-nil, le_trans, le_of_eq, mul-le-mul_right, mul_assoc, one-mul, mul-one, arith, pow-add}
+use Rattle.std.proofs.Common.{◌≡◌, ℕ, ◌+◌, ◌-◌, ◌*◌, ◌/◌, ◌%◌, ◌^◌, ◌<◌, ◌≤◌, min, Bool, true, false, ◌&&◌, eqb, List, [], ◌∷◌, ◌++◌, length, get_or, take, sym, refl, ap, ◌∙◌, subst, ap₂, append-nil, le_trans, le_of_eq, mul-le-mul_right, mul_assoc, one-mul, mul-one, arith, pow-add}
 use native.Mathlib.Nat.{min-eq_left, pow-le-pow_right, pow-zero, pow-succ'}
 use Rattle.std.proofs.lemmas.Nat.{mul-le}
 use Rattle.std.proofs.lemmas.List.{length-append, take_all}
-use Rattle.std.proofs.lemmas.Bool.{cond-false, cond-true, le-leb, lt-leb}
 use Rattle.network.specs.Lanes.{no_lane}
 use Rattle.network.specs.Scales.{full_limit}
 use Rattle.network.specs.Sets.{chosen, kept}
 use Rattle.network.specs.declared.lanes.Lane.{Lane}
 use Rattle.network.proofs.Sets.{chosen_more}
-use Rattle.bounds.specs.Depots.{all_fail, depot_number, lanes_at, touches}
+use Rattle.bounds.specs.Depots.{all_fail, lanes_at, touches}
 
 at_kept : (depot : ℕ) (b : Bool) (l : Lane) → lanes_at depot (kept b l []) ≡ kept (b && touches depot l) l []
 at_kept depot true l = refl
@@ -78,9 +77,6 @@ module _ (S K depot s : ℕ) (some : 1 ≤ S) (ls : List Lane) (i count fail : �
   counted_all : count ≡ length (lanes_at depot (chosen s ls))
   counted_all = so.counted ∙ ap (λ xs. length (lanes_at depot xs)) all
 
-  pub many : K < count → S ^ K ≡ depot_number S K depot (chosen s ls)
-  many above = sym (cond-false (leb (length (lanes_at depot (chosen s ls))) K) _ _ (lt-leb _ K (subst (λ (n : ℕ). K < n) counted_all above)))
-
   module _ (small : count ≤ K) where
     fails_all : fail ≡ all_fail S (lanes_at depot (chosen s ls))
     fails_all = so.fails small ∙ ap (λ xs. all_fail S (lanes_at depot xs)) all
@@ -90,8 +86,3 @@ module _ (S K depot s : ℕ) (some : 1 ≤ S) (ls : List Lane) (i count fail : �
         let low = subst (λ (n : ℕ). fail ≤ S ^ n) (sym counted_all) (le_trans (le_of_eq fails_all) (fail_below S (lanes_at depot (chosen s ls)))) in
         let filled : count + (K - count) ≡ K = omega arith in
         le_trans (mul-le-mul_right (S ^ (K - count)) low) (le_of_eq (sym (pow-add S count (K - count)) ∙ ap (λ (k : ℕ). S ^ k) filled))
-
-    pub number_told : S ^ K - fail * S ^ (K - count) ≡ depot_number S K depot (chosen s ls)
-    number_told =
-        ap₂ (λ (f k : ℕ). S ^ K - f * S ^ (K - k)) fails_all counted_all
-        ∙ sym (cond-true (leb (length (lanes_at depot (chosen s ls))) K) _ _ (le-leb _ K (subst (λ (n : ℕ). n ≤ K) counted_all small)))

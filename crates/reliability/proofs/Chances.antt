@@ -1,8 +1,8 @@
 -- What the questions about a set rest on: the chance fits its word, and the answers are told by every test of connectedness.
-use Rattle.std.proofs.Common.{◌≡◌, ℕ, ◌+◌, ◌-◌, ◌*◌, ◌^◌, ◌<◌, ◌≤◌, Bool, true, cond, ltb, List, length, is_some, Some, None, Ok, Err, Result, sym, ap, ◌∙◌, subst, ap₂, le_trans, mul-le-mul_right, arith, pow-add}
+use Rattle.std.proofs.Common.{◌≡◌, ℕ, ◌+◌, ◌-◌, ◌*◌, ◌^◌, ◌≤◌, Bool, true, cond, ltb, List, length, is_some, Some, None, Ok, sym, ap, ◌∙◌, subst, ap₂, le_trans, mul-le-mul_right, arith, pow-add}
 use native.Mathlib.Nat.{pow-le-pow_right}
 use lib.Count.{ones}
-use Rattle.std.proofs.lemmas.Bool.{cond-false, cond-true, le-ltb, lt-ltb}
+use Rattle.std.proofs.lemmas.Bool.{cond-false, le-ltb}
 use Rattle.network.specs.Answers.{first_of, told}
 use Rattle.network.specs.Connected.{EndsWithin, connects}
 use Rattle.network.specs.Lanes.{all_sound}
@@ -11,7 +11,6 @@ use Rattle.network.specs.Scales.{full_limit}
 use Rattle.network.specs.Sets.{given_refusal}
 use Rattle.network.specs.declared.lanes.Lane.{Lane}
 use Rattle.network.specs.declared.networks.Network.{Network}
-use Rattle.network.specs.declared.refusals.Refusal.{Refusal}
 use Rattle.network.specs.declared.refusals.Refusal.TheVariants.{ScratchTooShort}
 use Rattle.network.proofs.Sets.{set_fine, sound_chosen}
 use Rattle.semiring.specs.Semirings.{Laws, Ops}
@@ -28,23 +27,6 @@ module _ (network : Network) (s : ℕ) where
 
   pub ends_named : EndsWithin (depots_of network) (named network s)
   ends_named = sound_ends (parts_of network) (depots_of network) (named network s) sound_named
-
-  -- the answer of a total that is refused
-  pub total_refused : {V : Type 0} (o : Ops V) (before : List V) (r : Result V Refusal) (e : Refusal) → r ≡ Err e → total_refusal network s (length before) ≡ Some e → Totalled o network s before r before
-  total_refused o before r e is verdict =
-      record {
-        answer = is ∙ sym (ap (λ w. told w (set_total o (connects (depots_of network)) network s)) verdict);
-        meant = λ test tells. is ∙ sym (ap (λ w. told w (set_total o test network s)) verdict);
-        scratch = sym (cond-true _ _ _ (ap is_some verdict));
-      }
-
-  -- the refusals of a total in their order
-  pub not_given_first : (e : Refusal) (places : ℕ) → given_refusal (lanes_of network) s ≡ Some e → total_refusal network s places ≡ Some e
-  not_given_first e places h = ap (λ w. first_of w (cond (ltb places scratch_places) (Some ScratchTooShort) None)) h
-
-  pub then_too_short : (places : ℕ) → given_refusal (lanes_of network) s ≡ None → places < scratch_places → total_refusal network s places ≡ Some ScratchTooShort
-  then_too_short places h short =
-      ap (λ w. first_of w (cond (ltb places scratch_places) (Some ScratchTooShort) None)) h ∙ cond-true _ _ _ (lt-ltb places scratch_places short)
 
   -- the answer of a total that is not refused
   pub total_answered : {V : Type 0} (o : Ops V) → Laws o → (before : List V) (v : V) (after : List V) → given_refusal (lanes_of network) s ≡ None → scratch_places ≤ length before → v ≡ set_total o (connects (depots_of network)) network s → after ≡ cleared o before → Totalled o network s before (Ok v) after

@@ -1,10 +1,10 @@
 -- The scratch, filled from the last lane back.
-use Rattle.std.proofs.Common.{◌≡◌, ℕ, ◌+◌, ◌-◌, ◌<◌, ◌≤◌, ◌≢◌, List, [], ◌∷◌, ◌++◌, length, get_or, drop, set, replicate, sym, refl, ap, ◌∙◌, ⊎_elim, append_assoc, append-nil, ap₂, subst, length-append, arith}
-use Rattle.std.proofs.lemmas.List.{drop_at, drop_all, drop-drop, drop-set-lt, get_or-set_other, get_or-set_same, length-replicate, length-set, replicate_more, set_at, drop_more}
+use Rattle.std.proofs.Common.{◌≡◌, ℕ, ◌+◌, ◌-◌, ◌<◌, ◌≤◌, ◌≢◌, List, [], ◌∷◌, ◌++◌, length, get_or, drop, set, replicate, sym, refl, ap, ◌∙◌, ⊎_elim, append_assoc, ap₂, subst, length-append, arith}
+use Rattle.std.proofs.lemmas.List.{drop_at, drop-drop, drop-set-lt, get_or-set_other, get_or-set_same, length-replicate, length-set, replicate_more, set_at, drop_more}
 use Rattle.std.proofs.lemmas.Bool.{cases_eq}
 use Rattle.network.specs.declared.lanes.Lane.{Lane}
 use Rattle.semiring.specs.Semirings.{Ops}
-use Rattle.reliability.specs.Spread.{Filled, both, spread}
+use Rattle.reliability.specs.Spread.{both, spread}
 
 -- the places from i to the number of lanes are filled, and those beyond are as they were
 pub record FilledSofar {V : Type 0} (o : Ops V) (S : ℕ) (ls : List Lane) (before : List V) (i : ℕ) (places : List V) : Type 0 where
@@ -13,19 +13,6 @@ pub record FilledSofar {V : Type 0} (o : Ops V) (S : ℕ) (ls : List Lane) (befo
   pub beyond : drop (length ls + 1) places ≡ drop (length ls + 1) before
 
 module _ {V : Type 0} (o : Ops V) (S : ℕ) (ls : List Lane) where
-  filled_none : (before : List V) (one : V) → one ≡ o.one → length ls < length before → FilledSofar o S ls (set before (length ls) one) (length ls) (set before (length ls) one)
-  filled_none before one is within =
-      record {
-        long = refl;
-        each = λ k d low high.
-            let same : k ≡ length ls = omega arith in
-            ap (λ (j : ℕ). get_or (set before (length ls) one) j d) same
-            ∙ get_or-set_same before (length ls) one d within
-            ∙ is
-            ∙ sym (ap (spread o S) (drop_all k ls (omega arith)));
-        beyond = refl;
-      }
-
   -- one place more
   filled_more : (before : List V) (i : ℕ) (places : List V) → FilledSofar o S ls before (i + 1) places → i < length ls → length ls < length before → (v : V) → v ≡ spread o S (drop i ls) → FilledSofar o S ls before i (set places i v)
   filled_more before i places so within room v is =
@@ -52,16 +39,6 @@ module _ {V : Type 0} (o : Ops V) (S : ℕ) (ls : List Lane) where
     pub told : rest ≡ spread o S (drop (length left) ls)
     pub filled : FilledSofar o S ls before (length left) places
 
-  pub back_none : (before : List V) (one : V) → one ≡ o.one → length ls < length before → FillingBack (set before (length ls) one) ls 0 one (set before (length ls) one)
-  back_none before one is within =
-      let past = drop_all (length ls) ls (omega arith) in
-      record {
-        from_start = refl;
-        split = ap (λ back. ls ++ back) past ∙ append-nil ls;
-        told = is ∙ sym (ap (spread o S) past);
-        filled = filled_none before one is within;
-      }
-
   pub back_more : (before : List V) (left later : List Lane) (count : ℕ) (rest : V) (places : List V) → FillingBack before left count rest places → length ls < length before → (l : Lane) → left ≡ later ++ (l ∷ []) → (i : ℕ) → i ≡ count + length later → (v : V) → v ≡ o.product (both o S l) rest → FillingBack before later count v (set places i v)
   back_more before left later count rest places so room l last i at v is =
       let n = length later in
@@ -76,14 +53,6 @@ module _ {V : Type 0} (o : Ops V) (S : ℕ) (ls : List Lane) where
         split = ap (λ back. later ++ back) tail ∙ all;
         told = told;
         filled = subst (λ (k : ℕ). FilledSofar o S ls before n (set places k v)) (sym here) (filled_more before n places (subst (λ (k : ℕ). FilledSofar o S ls before k places) longer so.filled) within room v told);
-      }
-
-  -- every place is filled
-  pub filled_all : (before : List V) (one : V) (i : ℕ) (places : List V) → FilledSofar o S ls (set before (length ls) one) i places → i ≡ 0 → length ls < length before → record { filled : Filled o S ls places; beyond : drop (length ls + 1) places ≡ drop (length ls + 1) before }
-  filled_all before one i places so done room =
-      record {
-        filled = record { long = omega (arith, so.long, length-set before (length ls) one); each = λ k d high. so.each k d (omega arith) high };
-        beyond = so.beyond ∙ drop-set-lt (length ls + 1) before (length ls) one (omega arith);
       }
 
 -- the first places cleared, one after the other

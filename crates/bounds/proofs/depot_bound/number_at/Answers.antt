@@ -1,9 +1,9 @@
-use Rattle.std.proofs.Common.{◌≡◌, ℕ, ◌-◌, ◌*◌, ◌/◌, ◌%◌, ◌^◌, ◌<◌, ◌≤◌, Bool, ◌&&◌, eqb, length, sym, ap, ◌∙◌, subst, ap₂, subst₂, le_trans, arith}
+use Rattle.std.proofs.Common.{◌≡◌, ℕ, ◌-◌, ◌*◌, ◌/◌, ◌%◌, ◌^◌, ◌≤◌, Bool, ◌&&◌, eqb, length, sym, ap, ◌∙◌, subst, ap₂, subst₂, le_trans, arith}
 use native.Mathlib.Nat.{pow-le-pow_right}
 use Rattle.network.specs.Networks.{lanes_of, most_of, parts_of}
 use Rattle.network.specs.Scales.{full_limit}
 use Rattle.network.specs.declared.scales.Scale.{Scale}
-use Rattle.bounds.proofs.Failing.{FailSofar, fail_fits, fail_one, fail_other, many, number_told}
+use Rattle.bounds.proofs.Failing.{FailSofar, fail_fits, fail_one, fail_other}
 use Rattle.bounds.proofs.depot_bound.number_at.Goals as goal
 use Rattle.bounds.proofs.depot_bound.number_at.Goals.{After-from-most, After-pow, then-set-i, else-set-i}
 
@@ -12,11 +12,6 @@ parts_is c = c.from-parts.ensures ∙ c.parts.ensures ∙ ap (λ s. s.parts) c.s
 
 most_is : (c : After-from-most) → c.from-most.result ≡ most_of c.args.network.now
 most_is c = c.from-most.ensures ∙ c.most.ensures ∙ ap (λ s. s.most) c.scale-2.ensures
-
-pub overflow_add-count : goal.overflow_add-count
-overflow_add-count c =
-    let network = c.args.network.now in
-    omega (arith, c.loop-i.invariant.few, ap length c.lanes-lane-items.ensures, network.lanes.ok.0, network.few)
 
 pub loop-i-preserved : goal.loop-i-preserved
 loop-i-preserved c =
@@ -64,24 +59,8 @@ module _ (c : After-pow) where
       let network = c.args.network.now in
       omega (arith, lost, fail_fits (parts_of network) (most_of network) c.args.depot c.args.set network.scale.positive (lanes_of network) _ _ _ c.loop-i.invariant past small)
 
-full_is : (c : goal.Then-count-most) → c.full-full.result ≡ parts_of c.args.network.now ^ most_of c.args.network.now
-full_is c = c.full-full.ensures ∙ ap (λ (s : Scale). s.parts ^ s.most) c.scale-3.ensures
-
 pub overflow_mul-result : goal.overflow_mul-result
 overflow_mul-result c = omega (arith, fits c, c.args.network.now.scale.rule)
 
 pub overflow_sub-result : goal.overflow_sub-result
 overflow_sub-result c = omega (arith, fits c, c.full-full.ensures ∙ ap (λ (s : Scale). s.parts ^ s.most) c.scale-3.ensures)
-
-pub returns-then-count-most : goal.returns-then-count-most
-returns-then-count-most c =
-    let network = c.args.network.now in
-    let past = subst (λ xs. length xs ≤ c.loop-i.i) c.lanes-lane-items.ensures c.loop-i-test.false in
-    full_is c
-    ∙ many (parts_of network) (most_of network) c.args.depot c.args.set network.scale.positive (lanes_of network) _ _ _ c.loop-i.invariant past (subst (λ (k : ℕ). k < c.loop-i.count) (most_is (goal.at.returns-then-count-most c).After-from-most) c.if-count-most.true)
-
-pub returns-else-count-most : goal.returns-else-count-most
-returns-else-count-most c =
-    let network = c.args.network.now in
-    ap₂ ◌-◌ (c.full-full.ensures ∙ ap (λ (s : Scale). s.parts ^ s.most) c.scale-3.ensures) (lost c)
-    ∙ number_told (parts_of network) (most_of network) c.args.depot c.args.set network.scale.positive (lanes_of network) _ _ _ c.loop-i.invariant (past c) (small c)
