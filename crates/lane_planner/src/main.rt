@@ -8,7 +8,7 @@ use std::io::Read;
 fn main(rt: HostRuntime) -> anyhow::Result<()> {
     let mut buffer = [0u8; MOST_BYTES];
     let mut filled = 0;
-    // the input may come in pieces, each of at least a byte
+    // a buffer of zero bytes filled from standard input, as asked for; each piece has at least a byte
     for _ in 0..MOST_BYTES {
         let count = rt.stdin().read(&mut buffer[filled..])?;
         if count == 0 {

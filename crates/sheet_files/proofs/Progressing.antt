@@ -10,6 +10,7 @@ use Rattle.records.specs.declared.faults.Misfit.{Misfit}
 use Rattle.records.specs.declared.kinds.Stage.TheVariants.{First}
 use Rattle.records.specs.declared.readers.Place.{Place}
 use Rattle.records.specs.declared.readers.Reader.{Reader}
+use Rattle.records.proofs.Results.{err_same}
 use Rattle.records.proofs.Taking.{taken_whole}
 use Rattle.sheet.specs.Models.{Model}
 use Rattle.sheet_files.specs.Applying.{stage_of}
@@ -17,9 +18,6 @@ use Rattle.sheet_files.specs.Files.{fault, go_on, place_after, read_file, read_f
 use Rattle.sheet_files.specs.Reading.{Carried, Opened, first_by, next_by}
 use Rattle.sheet_files.specs.declared.faults.Cause.{Cause}
 use Rattle.sheet_files.specs.declared.faults.Fault.{Fault}
-
-same_cause : (a b : Cause) → ◌≡◌ {A = Result Model Cause} (Err a) (Err b) → a ≡ b
-same_cause a b h = cc
 
 -- ---- what is left
 
@@ -84,7 +82,7 @@ module _ (m0 : Model) (r0 : Reader) (m : Model) (r : Reader) (so : Sofar m0 r0 m
       where
         by_taken : (most : ℕ) (t : Result Taken Misfit) → next_by m t ≡ Err f.cause → read_taken (read_from most) m r.place t ≡ Err (fault f.cause r.place)
         by_taken most (Ok t) h = ap (go_on (read_from most (place_after r.place t) t.rest) r.place) h
-        by_taken most (Err misfit) h = ap (λ (c : Cause). Err (fault c r.place)) (same_cause _ _ h)
+        by_taken most (Err misfit) h = ap (λ (c : Cause). Err (fault c r.place)) (err_same h)
 
 -- ---- the first record
 
@@ -98,7 +96,7 @@ module _ (tell : Asked → ℕ) (file : List ℕ) (r : Reader) (is_file : file_o
     where
       by_taken : (t : Result Taken Misfit) → first_by tell t ≡ Err f.cause → read_first tell t ≡ Err (fault f.cause start)
       by_taken (Ok t) h = ap (go_on (read_from (length t.rest) (place_after start t) t.rest) start) h
-      by_taken (Err misfit) h = ap (λ (c : Cause). Err (fault c start)) (same_cause _ _ h)
+      by_taken (Err misfit) h = ap (λ (c : Cause). Err (fault c start)) (err_same h)
 
   pub first_read : (m : Model) (r' : Reader) → Opened tell r m r' → read_file tell file ≡ left_to_read (length (left_of r')) m r'
   first_read m r' went =
