@@ -24,8 +24,7 @@ pub fn open_sheet<B: Bound + Drop>(
         unreachable()
     };
     let scale = u16::from_le_bytes([*s0, *s1]);
-    let sheet = Sheet::open(room, scale, *most, *depots, bound)?;
-    Ok(sheet)
+    Ok(Sheet::open(room, scale, *most, *depots, bound)?)
 }
 
 // A lane that is offered stands.

@@ -2,14 +2,12 @@
 ghost use Rattle.std.specs.Prelude.{◌≡◌, length, IfOk, Err, MatchResult};
 ghost use Rattle.records.specs.Answers.{Gives};
 ghost use Rattle.records.specs.Reading.{file_of, left_of};
-ghost use Rattle.records.specs.Records.{take_record};
-ghost use Rattle.records.specs.declared.kinds.Stage.TheVariants.{First};
 ghost use Rattle.network.specs.Networks.{lanes_of};
 ghost use Rattle.sheet.specs.Runs.{Fresh};
 ghost use Rattle.sheet.specs.Sheets.{model_of};
-ghost use Rattle.sheet_files.specs.Applying.{stage_by, stage_of};
+ghost use Rattle.sheet_files.specs.Applying.{stage_by};
 ghost use Rattle.sheet_files.specs.Files.{read_file};
-ghost use Rattle.sheet_files.specs.Reading.{Carried, Next, Opened, first_by, next_by};
+ghost use Rattle.sheet_files.specs.Reading.{Carried, Faulted, Next, Opened, first_at, next_at};
 
 use crate::bodies::{add_lane, open_sheet, state_goal};
 use crate::faults::{Cause, Fault};
@@ -44,7 +42,7 @@ fn carry_out_next<B: Bound>(sheet: &mut Sheet<B>, reader: &mut Reader) -> Result
 // A fault is told with the place of the record that has it.
 fn read_next<B: Bound>(sheet: &mut Sheet<B>, reader: &mut Reader) -> Result<(), Fault>
     ensures file { file_of reader.new ≡ file_of reader.old }
-    ensures answer { MatchResult result (λ _. Carried (model_of B.tells sheet.old) reader.old (model_of B.tells sheet.new) reader.new) (λ fault. (next_by (model_of B.tells sheet.old) (take_record (stage_of (model_of B.tells sheet.old)) (left_of reader.old)) ≡ Err fault.cause) × (fault.place ≡ reader.old.place)) }
+    ensures answer { MatchResult result (λ _. Carried (model_of B.tells sheet.old) reader.old (model_of B.tells sheet.new) reader.new) (λ fault. Faulted (next_at (model_of B.tells sheet.old) (left_of reader.old)) reader.old.place fault) }
 {
     let place = reader.place();
     carry_out_next(sheet, reader).map_err(|cause| Fault { cause, place })
@@ -57,13 +55,13 @@ fn carry_out_first<B: Bound + Drop>(
     bound: B,
 ) -> Result<Sheet<B>, Cause>
     ensures file { file_of reader.new ≡ file_of reader.old }
-    ensures answer { MatchResult result (λ sheet. Opened (B.tells bound) reader.old (model_of B.tells sheet) reader.new) (λ cause. first_by (B.tells bound) (take_record First (left_of reader.old)) ≡ Err cause) }
+    ensures answer { MatchResult result (λ sheet. Opened (B.tells bound) reader.old (model_of B.tells sheet) reader.new) (λ cause. first_at (B.tells bound) (left_of reader.old) ≡ Err cause) }
 {
-    match reader.step(Stage::First)? {
-        Record::Sheet { body, .. } => open_sheet(room, body, bound),
-        // no other kind may stand first
-        Record::Lane { .. } | Record::Goal { .. } => unreachable(),
-    }
+    // no other kind may stand first
+    let Record::Sheet { body, .. } = reader.step(Stage::First)? else {
+        unreachable()
+    };
+    open_sheet(room, body, bound)
 }
 
 fn read_first<B: Bound + Drop>(
@@ -72,7 +70,7 @@ fn read_first<B: Bound + Drop>(
     bound: B,
 ) -> Result<Sheet<B>, Fault>
     ensures file { file_of reader.new ≡ file_of reader.old }
-    ensures answer { MatchResult result (λ sheet. Opened (B.tells bound) reader.old (model_of B.tells sheet) reader.new) (λ fault. (first_by (B.tells bound) (take_record First (left_of reader.old)) ≡ Err fault.cause) × (fault.place ≡ reader.old.place)) }
+    ensures answer { MatchResult result (λ sheet. Opened (B.tells bound) reader.old (model_of B.tells sheet) reader.new) (λ fault. Faulted (first_at (B.tells bound) (left_of reader.old)) reader.old.place fault) }
 {
     let place = reader.place();
     carry_out_first(room, reader, bound).map_err(|cause| Fault { cause, place })
