@@ -1,11 +1,10 @@
 // Reading a sheet file, record by record.
-ghost use Rattle.std.specs.Prelude.{◌≡◌, length, IfOk, Err, MatchResult};
+ghost use Rattle.std.specs.Prelude.{◌≡◌, IfOk, Err, MatchResult};
 ghost use Rattle.records.specs.Answers.{Gives};
 ghost use Rattle.records.specs.Reading.{file_of, left_of};
-ghost use Rattle.network.specs.Networks.{lanes_of};
 ghost use Rattle.sheet.specs.Runs.{Fresh};
 ghost use Rattle.sheet.specs.Sheets.{model_of};
-ghost use Rattle.sheet_files.specs.Applying.{stage_by};
+ghost use Rattle.sheet_files.specs.Applying.{stage_of};
 ghost use Rattle.sheet_files.specs.Files.{read_file};
 ghost use Rattle.sheet_files.specs.Reading.{Carried, Faulted, Next, Opened, first_at, next_at};
 
@@ -17,8 +16,8 @@ use records::{Reader, Record, Stage};
 use sheet::{Sheet, SheetRoom};
 
 // Which kinds of records may come next.
-fn find_stage<B>(sheet: &Sheet<B>) -> Stage
-    ensures { result ≡ stage_by sheet.now.goal (length (lanes_of sheet.now.network)) }
+fn find_stage<B: Bound>(sheet: &Sheet<B>) -> Stage
+    ensures { result ≡ stage_of (model_of B.tells sheet.now) }
 {
     match sheet.goal() {
         Some(_) => Stage::Last,
