@@ -3,9 +3,7 @@ ghost use Rattle.std.specs.Prelude.{◌≡◌, ◌≤◌, length};
 ghost use Rattle.network.specs.Sets.{chosen};
 
 use arrayvec::ArrayVec;
-use network::Lane;
-
-const MOST_LANES: usize = 20;
+use network::{Lane, MOST_LANES};
 
 // The set's lanes, in their order.
 pub(crate) fn choose(lanes: &[Lane], set: u32) -> ArrayVec<Lane, MOST_LANES>

@@ -11,7 +11,7 @@ ghost use Rattle.sheet_files.specs.Reading.{Carried, Faulted, Next, Opened, firs
 use crate::bodies::{add_lane, open_sheet, state_goal};
 use crate::faults::{Cause, Fault};
 use bounds::Bound;
-use network::Network;
+use network::MOST_LANES;
 use records::{Reader, Record, Stage};
 use sheet::{Sheet, SheetRoom};
 
@@ -21,7 +21,7 @@ fn find_stage<B: Bound>(sheet: &Sheet<B>) -> Stage
 {
     match sheet.goal() {
         Some(_) => Stage::Last,
-        None if sheet.network().lanes().len() < Network::MOST_LANES => Stage::Lanes,
+        None if sheet.network().lanes().len() < MOST_LANES => Stage::Lanes,
         None => Stage::Full,
     }
 }
