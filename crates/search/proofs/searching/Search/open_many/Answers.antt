@@ -5,7 +5,7 @@ use Rattle.search.proofs.searching.Search.open_many.Goals as goal
 
 pub returns-then-has_ended-clause-opened : goal.returns-then-has_ended-clause-opened
 returns-then-has_ended-clause-opened g c =
-    made_all (problem_of g.B.Bound.tells c.args.problem.now) c.args.self.now c.loop.self c.loop.counter c.args.openings c.loop.invariant.0 (omega arith) (sym c.if-has_ended.ensures)
+    made_all (problem_of g.B.Bound.tells c.args.problem.now) c.args.self.now c.loop.self c.loop.counter c.args.openings c.loop.invariant.0 (omega arith) (sym c.if-has_ended.ensures.told)
 
 pub loop-preserved : goal.loop-preserved
 loop-preserved g c = (

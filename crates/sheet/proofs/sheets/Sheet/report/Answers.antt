@@ -12,7 +12,7 @@ returns g c =
     let self = c.args.self.now in
     let m = model_of g.B.Bound.tells self in
     let r : Report = record { state = self.state; best = c.tell_best.result; openings = c.openings.result } in
-    let told : r ≡ report_of m = λ i. record { state = self.stands i; best = c.tell_best.ensures i; openings = c.openings.ensures i } in
+    let told : r ≡ report_of m = λ i. record { state = self.stands i; best = c.tell_best.ensures i; openings = c.openings.ensures.told i } in
     let known : Known m = record { means = g.met.B.Bound.meaning self.bound; lawful = λ goal b. checked_network self.network b.picked b.undecided } in
     record {
       told = told;
