@@ -52,7 +52,8 @@ pub struct Plan {
     pub chance: u64,
 }
 
-// While the sheet works the best set is the best so far. The openings are those since the last change.
+// State and best set are told side by side, as asked for: while the sheet works, the best set is the best so far.
+// The openings are those since the last change.
 #[derive(Clone, Copy, PartialEq, Eq, Debug)]
 pub struct Report {
     pub state: State,

@@ -29,7 +29,7 @@ impl Network {
         Ok(())
     }
 
-    // The sum of the costs of the set's lanes, those that were not given left out.
+    // The sum of the costs of the set's lanes, those that were not given left out: a loop over the lanes with their index, as asked for.
     pub fn sum_costs(&self, set: u32) -> u32
         ensures { result ≡ set_cost set (lanes_of self.now) }
     {

@@ -1,4 +1,4 @@
-// The sheet as a machine: its state and the call say what happens.
+// The sheet as a machine in place, as asked for: its state, matched together with the call, says what happens.
 ghost use Rattle.sheet.specs.Calls.{Stepped};
 ghost use Rattle.sheet.specs.Sheets.{model_of};
 ghost use Rattle.sheet.specs.declared.words.Call.TheVariants.{Grant, Offer, Reprice, Restore, StateGoal, Strike};
