@@ -1,8 +1,8 @@
 // What is compared with the enumeration: lanes with a limit, goals, and the report that is due.
+use crate::layouts::{Layout, SETS};
 use network::Lane;
 use sheet::{Plan, Report, State};
 use std::fmt;
-use trials::{Layout, SETS};
 
 // The most lanes in a set, and how many parts of ten to the power of five one part of the full scale is.
 pub const LIMITS: [(u8, u64); 2] = [(2, 1000), (5, 1)];

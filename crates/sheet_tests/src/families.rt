@@ -1,5 +1,6 @@
 // All sheets of up to five lanes that are taken one after the other from a table of six.
 use crate::cases::Taken;
+use crate::layouts::{LANES, Layout};
 use crate::sheets::open;
 use bounds::Bound;
 use network::{Lane, Mark};
@@ -7,7 +8,6 @@ use sheet::Sheet;
 use std::alloc::{AllocError, AllocGlobal, Global};
 use std::iter;
 use std::test::*;
-use trials::{LANES, Layout};
 
 // The ways to take up to five lanes from six, repetitions and order counted.
 const WAYS: u32 = 9331;

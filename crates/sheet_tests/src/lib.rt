@@ -1,4 +1,4 @@
-// Tests of the sheet: its calls and refusals, and small sheets compared with a plain enumeration of their sets and states.
+// Tests of the sheet, its calls and refusals; and small networks and sheets compared with a plain enumeration of their sets and states.
 #![tactic(auto)]
 
 #[cfg(test)]
@@ -10,13 +10,21 @@ mod cases;
 #[cfg(test)]
 mod changes;
 #[cfg(test)]
+mod draws;
+#[cfg(test)]
+mod enumeration;
+#[cfg(test)]
 mod families;
 #[cfg(test)]
 mod goal_refusals;
 #[cfg(test)]
+mod layouts;
+#[cfg(test)]
 mod opening;
 #[cfg(test)]
 mod pieces;
+#[cfg(test)]
+mod possible;
 #[cfg(test)]
 mod refusals;
 #[cfg(test)]

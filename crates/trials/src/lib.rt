@@ -1,11 +1,9 @@
-// What tests and benchmarks share: a lane, numbers drawn from a first one, and the answers about up to five lanes by plain enumeration.
-// It shares no code with the library, so that each can be held against the other, and promises of the enumeration only that it is safe.
+// What tests and benchmarks share: a lane, and numbers drawn from a first one.
+// Promise: each number drawn is the one that follows from the number before it.
 #![tactic(auto)]
 
 mod draws;
 mod lanes;
-mod layouts;
 
 pub use draws::Draws;
 pub use lanes::FIRST;
-pub use layouts::{LANES, Layout, SETS};

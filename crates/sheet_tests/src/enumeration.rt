@@ -1,10 +1,10 @@
 // Chances, connectedness and joining costs, compared with a plain enumeration.
 use crate::draws::{DEPOTS, lanes_of, network_of};
+use crate::layouts::{Layout, SETS};
 use network::Network;
 use reliability::{chance, connected, joining_cost};
 use std::process::Abort;
 use std::test::Fail;
-use trials::{Layout, SETS};
 
 fn compare(rt: &impl Abort, network: &Network, layout: Layout) {
     for set in 0..SETS {

@@ -1,9 +1,10 @@
 // Small networks to test on, drawn from a number.
+use crate::layouts::LANES;
 use network::{Lane, LaneRoom, Mark, Network};
 use std::alloc::AllocGlobal;
 use std::array;
 use std::test::Fail;
-use trials::{Draws, LANES};
+use trials::Draws;
 
 pub const DEPOTS: u8 = 4;
 

@@ -1,11 +1,11 @@
 // Every question on small networks: no bound is below the best chance of a set that is still possible.
 use crate::draws::{DEPOTS, lanes_of, network_of};
+use crate::layouts::{Layout, SETS};
 use bounds::{Bound, Depot, Lesser, Plain, Question, Whole};
 use network::Network;
 use reliability::chance;
 use std::process::Abort;
 use std::test::Fail;
-use trials::{Layout, SETS};
 
 const MOST: u8 = 3;
 
