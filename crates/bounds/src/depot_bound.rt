@@ -25,6 +25,7 @@ fn number_at(network: &Network, set: u32, depot: u8) -> u64
 {
     let parts = u64::from(network.scale().parts());
     let most = u32::from(network.scale().most());
+    // one loop for both figures: by chains it would be two, each with this filter
     let mut count = 0;
     // the product of the failing parts, which is exact as long as there are at most K of them
     let mut fail: u64 = 1;
@@ -46,6 +47,7 @@ fn number_at(network: &Network, set: u32, depot: u8) -> u64
 fn least_number(network: &Network, set: u32) -> u64
     ensures { result ≡ least_depot (parts_of network.now) (most_of network.now) (depots_of network.now) (named network.now set) }
 {
+    // tried as map and fold, of which `search` finds no proof; by hand it is longer than this loop's
     let mut least = network.scale().full();
     for depot in 0..network.depots() {
         least = least.min(number_at(network, set, depot));

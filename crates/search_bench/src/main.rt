@@ -148,6 +148,7 @@ fn run(rt: &HostRuntime) -> anyhow::Result<()> {
         return Ok(());
     };
     let count = count.as_str().parse::<u32>()?;
+    // by map_or the parse would stand in a closure, and its error would have to be passed out of it
     let case = match words.next() {
         Some(parts) => find_case(parts.as_str().parse::<u16>()?)?,
         None => TENTHS,

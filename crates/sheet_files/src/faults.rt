@@ -68,6 +68,7 @@ pub struct Fault {
 }
 
 impl Fault {
+    // A question about a fault, and not another form of it: so a method.
     pub fn layer(self) -> Layer
         ensures { result ≡ layer_of self.cause }
     {

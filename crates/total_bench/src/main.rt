@@ -85,6 +85,7 @@ fn run(rt: &HostRuntime) -> anyhow::Result<()> {
         return Ok(());
     };
     let rounds = rounds.as_str().parse::<usize>()?;
+    // by map_or the parse would stand in a closure, and its error would have to be passed out of it
     let count = match words.next() {
         Some(lanes) => lanes.as_str().parse::<usize>()?,
         None => LANES,
