@@ -37,7 +37,8 @@ fn ask<B>(sheet: &Sheet<B>, set: u32) -> Result<Row, Refusal> {
     })
 }
 
-// A report with the full scale, in parts of which it tells a chance.
+// A report with the full scale, in parts of which it tells a chance. The console program prints the answer to a file in such a
+// line too; this example stands on the sheet alone, and not on files.
 #[derive(Drop)]
 struct Told {
     report: Report,
