@@ -25,7 +25,7 @@ fn number_at(network: &Network, set: u32, depot: u8) -> u64
 {
     let parts = u64::from(network.scale().parts());
     let most = u32::from(network.scale().most());
-    // one loop for both figures: by chains it would be two, each with this filter
+    // one loop for both figures, each under its name: a fold would carry them as a pair
     let mut count = 0;
     // the product of the failing parts, which is exact as long as there are at most K of them
     let mut fail: u64 = 1;
@@ -47,7 +47,7 @@ fn number_at(network: &Network, set: u32, depot: u8) -> u64
 fn least_number(network: &Network, set: u32) -> u64
     ensures { result ≡ least_depot (parts_of network.now) (most_of network.now) (depots_of network.now) (named network.now set) }
 {
-    // tried as map and fold, of which `search` finds no proof; by hand it is longer than this loop's
+    // a `for` over the depots: tried as map and fold, and the proof did not close
     let mut least = network.scale().full();
     for depot in 0..network.depots() {
         least = least.min(number_at(network, set, depot));

@@ -5,7 +5,7 @@ use planning::{MOST_BYTES, plan};
 use sheet::SheetRoom;
 use std::alloc::{AllocError, Global};
 
-// Any other byte counts as 0; a library's decoding would refuse it.
+// Any other byte counts as 0, a capital too: the library's decoding would take a capital, and refuse the rest.
 fn digit(byte: u8) -> u8 {
     match byte {
         b'0'..=b'9' => byte - b'0',

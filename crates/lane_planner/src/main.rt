@@ -18,6 +18,7 @@ fn main(rt: HostRuntime) -> anyhow::Result<()> {
     }
     let room = SheetRoom::reserve(rt.alloc())?;
     let answer = plan(room, &buffer[..filled]);
+    // taken apart by let else, as asked for
     let Ok(planned) = answer else {
         let failure = answer.unwrap_err();
         println!(rt; "{failure}")?;

@@ -9,11 +9,11 @@ ghost use Rattle.reliability.specs.Totals.{total};
 
 use crate::labels::Labels;
 use crate::named::Named;
-use network::{Lane, Scale};
+use network::{Lane, MOST_LANES, Scale};
 use semiring::Semiring;
 
 // As many places as there are lanes at most, and one.
-pub const SCRATCH_PLACES: usize = 21;
+pub const SCRATCH_PLACES: usize = MOST_LANES + 1;
 
 // The two weights of a lane together.
 fn add_weights<V: Semiring>(lane: &Lane, scale: Scale) -> V

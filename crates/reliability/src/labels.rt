@@ -2,9 +2,9 @@
 ghost use Rattle.std.specs.Prelude.{◌≡◌, ◌<◌, [], ◌∷◌};
 ghost use Rattle.network.specs.Connected.{EndsWithin, label_at, meets, merged, own_labels, relabelled};
 
-use network::Lane;
+use network::{Lane, Network};
 
-const DEPOTS: usize = 10;
+const DEPOTS: usize = Network::MOST_DEPOTS as usize;
 
 fn replace(label: u8, from: u8, to: u8) -> u8
     ensures { result ≡ relabelled to from label }

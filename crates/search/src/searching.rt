@@ -4,11 +4,12 @@ mod openings;
 mod questions;
 
 use crate::branches::Branch;
+use network::MOST_LANES;
 use rooms::Room;
 use std::marker::Model;
 
 // One more than the most lanes of a network.
-const MOST_PENDING: usize = 21;
+const MOST_PENDING: usize = MOST_LANES + 1;
 
 // The memory of a search's branches.
 pub type SearchRoom = Room<Branch, MOST_PENDING>;

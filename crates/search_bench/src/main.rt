@@ -102,12 +102,6 @@ fn build(heap: Global, case: Case, number: u32) -> anyhow::Result<Planner> {
     Ok(sheet)
 }
 
-fn search(sheet: &mut Planner, goal: Goal) -> Result<Report, Refusal> {
-    sheet.state_goal(goal)?;
-    sheet.grant(MOST_GRANTED)?;
-    Ok(sheet.report())
-}
-
 // What the searches found, in one number, and their openings.
 #[derive(Clone, Copy)]
 struct Sums {
@@ -137,7 +131,9 @@ fn sum_up(sheets: &mut [Planner], goal: Goal) -> Result<Sums, Refusal> {
         openings: 0,
     };
     for sheet in sheets.iter_mut() {
-        sums.add(search(sheet, goal)?);
+        sheet.state_goal(goal)?;
+        sheet.grant(MOST_GRANTED)?;
+        sums.add(sheet.report());
     }
     Ok(sums)
 }
@@ -148,11 +144,8 @@ fn run(rt: &HostRuntime) -> anyhow::Result<()> {
         return Ok(());
     };
     let count = count.as_str().parse::<u32>()?;
-    // by map_or the parse would stand in a closure, and its error would have to be passed out of it
-    let case = match words.next() {
-        Some(parts) => find_case(parts.as_str().parse::<u16>()?)?,
-        None => TENTHS,
-    };
+    let parts = words.next().map(|parts| parts.as_str().parse::<u16>());
+    let case = find_case(parts.transpose()?.unwrap_or(TENTHS.parts))?;
     let mut sheets = (0..count)
         .map(|number| build(rt.alloc(), case, number))
         .try_collect::<Vec<Planner>>(rt.alloc())?;

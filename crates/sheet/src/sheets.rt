@@ -26,7 +26,8 @@ pub struct SheetRoom {
 }
 
 // The least chance that reaches the goal, and the state, are kept beside what they follow from.
-// No model: it would hold what the bound tells, and a model's value may hold no function.
+// No model: its calls promise by `model_of`, which takes what the bound tells, and its questions by the network in it. One view
+// would have to hold both, and each clause would take it apart.
 #[derive(Drop)]
 pub struct Sheet<B> {
     network: Network,

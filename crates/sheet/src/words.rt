@@ -10,6 +10,8 @@ pub struct Goal {
     pub parts: u64,
 }
 
+// The figures of an offer and of a price stand as the customer gives them: a struct of them would be made for a call and taken
+// apart in it.
 #[derive(Clone, Copy, PartialEq, Eq, Debug)]
 pub enum Call {
     Offer {

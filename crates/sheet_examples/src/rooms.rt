@@ -2,6 +2,7 @@
 use crate::SEARCHES;
 use sheet::SheetRoom;
 use std::alloc::{AllocError, Global};
+use std::array;
 
 // A room for each search, in the order of the list.
 #[derive(Drop)]
@@ -9,13 +10,6 @@ pub struct Rooms(pub [SheetRoom; SEARCHES]);
 
 impl Rooms {
     pub fn reserve(heap: Global) -> Result<Rooms, AllocError> {
-        Ok(Rooms([
-            SheetRoom::reserve(heap)?,
-            SheetRoom::reserve(heap)?,
-            SheetRoom::reserve(heap)?,
-            SheetRoom::reserve(heap)?,
-            SheetRoom::reserve(heap)?,
-            SheetRoom::reserve(heap)?,
-        ]))
+        Ok(Rooms(array::try_from_fn(|_| SheetRoom::reserve(heap))?))
     }
 }

@@ -38,7 +38,8 @@ fn carry_out_next<B: Bound>(sheet: &mut Sheet<B>, reader: &mut Reader) -> Result
     }
 }
 
-// A fault is told with the place of the record that has it.
+// A fault is told with the place of the record that has it, here and in `read_first`: one function over a step would need a
+// contract longer than both.
 fn read_next<B: Bound>(sheet: &mut Sheet<B>, reader: &mut Reader) -> Result<(), Fault>
     ensures file { file_of reader.new ≡ file_of reader.old }
     ensures answer { MatchResult result (λ _. Carried (model_of B.tells sheet.old) reader.old (model_of B.tells sheet.new) reader.new) (λ fault. Faulted (next_at (model_of B.tells sheet.old) (left_of reader.old)) reader.old.place fault) }

@@ -4,8 +4,8 @@
 
 use bounds::{Bound, Depot, Plain, Whole};
 use network::Refusal;
-use sheet::{Goal, MOST_GRANTED, Report, Sheet, SheetRoom, State};
-use sheet_examples::{Rooms, follow, open_three, reports};
+use sheet::{Goal, Report, Sheet, SheetRoom, State};
+use sheet_examples::{Rooms, follow, open_three, reports, seek};
 use std::fmt;
 
 // What the table tells of a set. The table of lanes asks by other calls: one trait over both would be longer than the two.
@@ -61,31 +61,22 @@ impl fmt::Display for Told {
     }
 }
 
-fn search_whole<B: Bound>(sheet: &mut Sheet<B>, goal: Goal) -> Result<Told, Refusal> {
-    sheet.state_goal(goal)?;
-    sheet.grant(MOST_GRANTED)?;
-    Ok(Told {
-        report: sheet.report(),
-        full: sheet.network().scale().full(),
-    })
-}
-
-fn print_answer<T: fmt::Display>(
-    rt: &HostRuntime,
-    answer: &Result<T, Refusal>,
-) -> anyhow::Result<()> {
-    match answer {
-        Ok(told) => println!(rt; "{told}")?,
-        Err(refusal) => println!(rt; "{refusal}")?,
-    }
+fn print_search<B: Bound>(rt: &HostRuntime, sheet: &mut Sheet<B>, goal: Goal) -> anyhow::Result<()> {
+    let report = seek(sheet, goal);
+    let full = sheet.network().scale().full();
+    println!(rt; "{}", Told { report, full })?;
     Ok(())
 }
 
 fn print_table<B>(rt: &HostRuntime, sheet: &Sheet<B>) -> anyhow::Result<()> {
     for set in 0..8 {
         print!(rt; "set {set} ")?;
-        print_answer(rt, &ask(sheet, set))?;
+        match ask(sheet, set) {
+            Ok(row) => println!(rt; "{row}")?,
+            Err(refusal) => println!(rt; "{refusal}")?,
+        }
     }
+    // as the table of lanes prints it, which asks a network: see `Row`
     match sheet.joining_cost() {
         Some(cost) => println!(rt; "joining cost {cost}")?,
         None => println!(rt; "joining cost absent")?,
@@ -103,7 +94,7 @@ fn print_goals(rt: &HostRuntime, sheet: &mut Sheet<Plain>) -> anyhow::Result<()>
     ];
     for (name, places, parts) in goals {
         print!(rt; "goal {name}: ")?;
-        print_answer(rt, &search_whole(sheet, Goal { places, parts }))?;
+        print_search(rt, sheet, Goal { places, parts })?;
     }
     Ok(())
 }
@@ -116,7 +107,7 @@ fn print_openings<B: Bound + Drop>(rt: &HostRuntime, name: &str, bound: B) -> an
         parts: 8,
     };
     print!(rt; "goal 8 of 10 under {name}: ")?;
-    print_answer(rt, &search_whole(&mut sheet, goal))
+    print_search(rt, &mut sheet, goal)
 }
 
 fn print_searches(rt: &HostRuntime, full: u64) -> anyhow::Result<()> {

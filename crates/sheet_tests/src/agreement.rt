@@ -24,6 +24,7 @@ fn count_openings<B: Bound>(
         );
         openings.push(report.openings)?;
     }
+    assert_eq!(rt; openings.len(), GOAL_COUNT);
     Ok(openings)
 }
 

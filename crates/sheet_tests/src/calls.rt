@@ -1,9 +1,12 @@
 // Calls and reports in short, for the tables of the tests.
 use bounds::Bound;
 use network::Refusal;
-use sheet::{Call, Goal, MOST_GRANTED, Plan, Report, Sheet, State};
+use sheet::{Call, Goal, Plan, Report, Sheet, State};
 use std::process::Abort;
 use std::test::*;
+
+// The most openings of one grant, as the rules have it, and not as the library does.
+pub const MOST: u32 = 2_097_151;
 
 pub fn offer(left: u8, right: u8, chance: u16, cost: u32) -> Call {
     Call::Offer {
@@ -99,6 +102,6 @@ pub fn follow<B: Bound>(
 // The report of the whole work for a goal.
 pub fn seek<B: Bound>(sheet: &mut Sheet<B>, goal: Goal) -> Result<Report, Fail> {
     sheet.state_goal(goal)?;
-    sheet.grant(MOST_GRANTED)?;
+    sheet.grant(MOST)?;
     Ok(sheet.report())
 }

@@ -1,9 +1,8 @@
 // Refusals of goals and grants, each at its limit and just inside, and which of two comes first.
-use crate::calls::{answers, goal, grant};
+use crate::calls::{MOST, answers, goal, grant};
 use crate::sheets::{open, open_three};
 use bounds::Plain;
 use network::Refusal;
-use sheet::MOST_GRANTED;
 use std::test::*;
 
 #[test]
@@ -50,18 +49,18 @@ fn grants(rt: HostRuntime) -> Result<(), Fail> {
     let calls = [
         (grant(0), Err(Refusal::NoGoal)),
         (grant(1), Err(Refusal::NoGoal)),
-        (grant(MOST_GRANTED + 1), Err(Refusal::NoGoal)),
+        (grant(MOST + 1), Err(Refusal::NoGoal)),
         (goal(0, 8), Err(Refusal::PlacesOutOfRange)),
         (grant(1), Err(Refusal::NoGoal)),
         (goal(1, 8), Ok(())),
-        (grant(MOST_GRANTED + 1), Err(Refusal::GrantTooLarge)),
+        (grant(MOST + 1), Err(Refusal::GrantTooLarge)),
         (grant(0xffff_ffff), Err(Refusal::GrantTooLarge)),
-        (grant(MOST_GRANTED), Ok(())),
-        (grant(MOST_GRANTED + 1), Err(Refusal::GrantTooLarge)),
-        (grant(MOST_GRANTED), Ok(())),
+        (grant(MOST), Ok(())),
+        (grant(MOST + 1), Err(Refusal::GrantTooLarge)),
+        (grant(MOST), Ok(())),
         (goal(3, 955), Ok(())),
-        (grant(MOST_GRANTED), Ok(())),
-        (grant(MOST_GRANTED + 1), Err(Refusal::GrantTooLarge)),
+        (grant(MOST), Ok(())),
+        (grant(MOST + 1), Err(Refusal::GrantTooLarge)),
         (grant(0), Ok(())),
     ];
     answers(&rt, &mut sheet, &calls);

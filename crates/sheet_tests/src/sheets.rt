@@ -19,11 +19,8 @@ pub fn open<B: Bound + Drop>(
 
 // Three depots, a lane between each two.
 pub fn open_three(rt: &impl AllocGlobal) -> Result<Sheet<Plain>, Fail> {
-    let mut sheet = open(rt, 4, 3, Plain)?;
-    sheet.offer(0, 1, 9, 4)?;
-    sheet.offer(1, 2, 9, 5)?;
-    sheet.offer(0, 2, 8, 7)?;
-    Ok(sheet)
+    let room = SheetRoom::reserve(rt.alloc())?;
+    Ok(sheet_examples::open_three(room, Plain))
 }
 
 // Two depots and twenty equal lanes between them.

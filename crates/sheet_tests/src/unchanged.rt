@@ -1,12 +1,9 @@
 // A refused call in the middle of the work leaves the report and the lanes as they were.
-use crate::calls::{
-    answers, drafting, follow, found, goal, grant, holding, offer, reprice, restore, strike,
-    working,
-};
+use crate::calls::{, MOST, answers, drafting, follow, found, goal, grant, holding, offer, reprice, restore, strike, working};
 use crate::sheets::{open_three, open_twenty};
 use bounds::Plain;
 use network::{Lane, Mark, Refusal};
-use sheet::{Call, MOST_GRANTED, Sheet};
+use sheet::{Call, Sheet};
 use std::process::Abort;
 use std::test::*;
 use trials::FIRST;
@@ -62,7 +59,7 @@ fn refused() -> [(Call, Refusal); 16] {
         (goal(5, 9), Refusal::PlacesOutOfRange),
         (goal(1, 0), Refusal::PartsOutOfRange),
         (goal(1, 11), Refusal::PartsOutOfRange),
-        (grant(MOST_GRANTED + 1), Refusal::GrantTooLarge),
+        (grant(MOST + 1), Refusal::GrantTooLarge),
     ]
 }
 
@@ -91,7 +88,7 @@ fn a_lane_too_many(rt: HostRuntime) -> Result<(), Fail> {
     assert_eq!(rt; sheet.network().lanes().len(), 20);
     let steps = [
         (grant(0), working(21)),
-        (grant(MOST_GRANTED), found(41, 1, 4, 9000)),
+        (grant(MOST), found(41, 1, 4, 9000)),
     ];
     follow(&rt, &mut sheet, &steps)
 }

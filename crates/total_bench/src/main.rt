@@ -85,11 +85,8 @@ fn run(rt: &HostRuntime) -> anyhow::Result<()> {
         return Ok(());
     };
     let rounds = rounds.as_str().parse::<usize>()?;
-    // by map_or the parse would stand in a closure, and its error would have to be passed out of it
-    let count = match words.next() {
-        Some(lanes) => lanes.as_str().parse::<usize>()?,
-        None => LANES,
-    };
+    let lanes = words.next().map(|lanes| lanes.as_str().parse::<usize>());
+    let count = lanes.transpose()?.unwrap_or(LANES);
     let set = first(count)?;
     let networks = (0..NETWORKS)
         .map(|number| build(rt.alloc(), number))

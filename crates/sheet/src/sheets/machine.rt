@@ -29,7 +29,7 @@ impl<B: Bound> Sheet<B> {
             (_, Call::StateGoal(goal)) => self.take_goal(goal),
             (State::Drafting, Call::Grant { .. }) => Err(Refusal::NoGoal),
             (State::Working, Call::Grant { openings }) => self.work(openings),
-            // an ended sheet has nothing to open; in one arm for both, the proof would not know the state
+            // an ended sheet has nothing to open; tried in one arm for both, and the proof no longer knew the state
             (State::Found, Call::Grant { openings }) => check_grant(openings),
             (State::NoneFound, Call::Grant { openings }) => check_grant(openings),
         }
