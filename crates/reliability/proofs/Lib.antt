@@ -4,5 +4,6 @@ pub mod Splitting
 pub mod Stepping
 pub mod Filling
 pub mod Joined
+pub mod Joining
 pub mod Meaning
 pub mod Natural

@@ -15,7 +15,7 @@ ends_at n (l ∷ ls) zero ends within = (ends.0, ends.1, tt)
 ends_at n (l ∷ ls) (suc i) ends within = ends_at n ls i ends.2 (omega arith)
 
 module _ {V : Type 0} (o : Ops V) (laws : Laws o) (S : ℕ) (ls : List Lane) (labels : List ℕ) where
-  abbrev from : ℕ → ℕ → V
+  abbrev pub from : ℕ → ℕ → V
   from i parts = total o S (connects_from labels parts) (drop i ls)
 
   -- too few lanes are left from here on

@@ -56,13 +56,13 @@ impl<V: Semiring> Task<'_, V> {
         ensures { result ≡ from_lane V.ops self.now.named i labels.now 2 }
     {
         let mut value = V::zero();
-        // by index: over the elements, by `iter().rev().zip(..)`, the same in Rust takes 3 to 5 instructions in 100 more for a total
-        for k in (i..self.named.lanes.len()).rev() {
-            let lane = &self.named.lanes[k];
+        // `rest` by index: by `zip(rest).rev()`, a total of 18 lanes takes 12 instructions in 100 more
+        let rest = &self.rest[i + 1..];
+        for (k, lane) in self.named.lanes[i..].iter().enumerate().rev() {
             if labels.meet(lane) {
                 value = add_weights::<V>(lane, self.named.scale).product(value);
             } else {
-                value = mix(lane, self.named.scale, self.rest[k + 1], value);
+                value = mix(lane, self.named.scale, rest[k], value);
             }
         }
         value
