@@ -61,7 +61,11 @@ impl fmt::Display for Told {
     }
 }
 
-fn print_search<B: Bound>(rt: &HostRuntime, sheet: &mut Sheet<B>, goal: Goal) -> anyhow::Result<()> {
+fn print_search<B: Bound>(
+    rt: &HostRuntime,
+    sheet: &mut Sheet<B>,
+    goal: Goal,
+) -> anyhow::Result<()> {
     let report = seek(sheet, goal);
     let full = sheet.network().scale().full();
     println!(rt; "{}", Told { report, full })?;

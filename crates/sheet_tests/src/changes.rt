@@ -1,5 +1,8 @@
 // A goal stays over changes of lanes, and a later goal takes its place.
-use crate::calls::{, MOST, drafting, follow, found, goal, grant, holding, none_found, offer, reprice, restore, strike, working};
+use crate::calls::{
+    MOST, drafting, follow, found, goal, grant, holding, none_found, offer, reprice, restore,
+    strike, working,
+};
 use crate::sheets::{open, open_three};
 use bounds::Plain;
 use std::test::*;

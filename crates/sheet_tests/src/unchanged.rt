@@ -1,5 +1,8 @@
 // A refused call in the middle of the work leaves the report and the lanes as they were.
-use crate::calls::{, MOST, answers, drafting, follow, found, goal, grant, holding, offer, reprice, restore, strike, working};
+use crate::calls::{
+    MOST, answers, drafting, follow, found, goal, grant, holding, offer, reprice, restore, strike,
+    working,
+};
 use crate::sheets::{open_three, open_twenty};
 use bounds::Plain;
 use network::{Lane, Mark, Refusal};
