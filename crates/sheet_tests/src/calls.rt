@@ -99,7 +99,7 @@ pub fn follow<B: Bound>(
     Ok(())
 }
 
-// The report of the whole work for a goal.
+// The report of the whole work for a goal. The examples' `seek` grants only what three lanes can take, and tells no refusal.
 pub fn seek<B: Bound>(sheet: &mut Sheet<B>, goal: Goal) -> Result<Report, Fail> {
     sheet.state_goal(goal)?;
     sheet.grant(MOST)?;

@@ -22,7 +22,8 @@ impl SheetRoom {
 }
 
 impl<B: Bound + Drop> Sheet<B> {
-    // A sheet without lanes and without a goal, which keeps its scale, K, depots and bound.
+    // A sheet without lanes and without a goal, which keeps its scale, K, depots and bound. These stand side by side, as only this
+    // call and `Network::new` take them, and each caller names all.
     pub fn open(
         room: SheetRoom,
         parts: u16,
