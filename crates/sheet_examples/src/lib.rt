@@ -5,13 +5,13 @@
 ghost use Rattle.std.specs.Prelude.{◌≡◌};
 ghost use Rattle.sheet_examples.specs.Searches.{SearchesHold, expected_reports};
 
-mod rooms;
+mod memory;
 mod runs;
 mod searches;
 
 use crate::searches::seek_in;
 use bounds::{Depot, Plain, Whole};
-pub use rooms::Rooms;
+pub use memory::Rooms;
 pub use runs::{Followed, follow};
 pub use searches::{open_three, seek};
 use sheet::{Goal, Report};
