@@ -56,13 +56,14 @@ impl<V: Semiring> Task<'_, V> {
         ensures { result ≡ from_lane V.ops self.now.named i labels.now 2 }
     {
         let mut value = V::zero();
-        // `rest` by index: by `zip(rest).rev()`, a total of 18 lanes takes 12 instructions in 100 more
-        let rest = &self.rest[i + 1..];
-        for (k, lane) in self.named.lanes[i..].iter().enumerate().rev() {
+        // each slice reversed: by `zip(rest).rev()`, a total of 18 lanes takes 12 instructions in 100 more
+        let lanes = &self.named.lanes[i..];
+        let rest = &self.rest[i + 1..][..lanes.len()];
+        for (lane, rest) in lanes.iter().rev().zip(rest.iter().rev()) {
             if labels.meet(lane) {
                 value = add_weights::<V>(lane, self.named.scale).product(value);
             } else {
-                value = mix(lane, self.named.scale, rest[k], value);
+                value = mix(lane, self.named.scale, *rest, value);
             }
         }
         value
