@@ -14,6 +14,8 @@ mod draws;
 #[cfg(test)]
 mod enumeration;
 #[cfg(test)]
+mod every_goal;
+#[cfg(test)]
 mod families;
 #[cfg(test)]
 mod goal_refusals;
