@@ -89,4 +89,4 @@ module _ (start : Model) (is_fresh : Fresh start) (run : List Call) (m : Model) 
       known
 
   pub statement : Statement start run m (report_of m)
-  statement = record { searched = λ goal stated. searched m goal stated (known.lawful goal) (sum_of start run) (told goal stated); as_one = one }
+  statement = record { searched = λ goal stated. searched m goal stated (known.lawful goal) (sum_of start run) (told goal stated); drafts = λ none. ap (λ goal. state_by goal m.progress) none; as_one = one }

@@ -1,5 +1,5 @@
 -- The statement over every run: when found and none are told, which set is found, that grants add up, and how many openings are told.
-use Rattle.std.specs.Prelude.{◌≡◌, ℕ, suc, ◌-◌, ◌^◌, ◌≤◌, min, Bool, List, length, Some}
+use Rattle.std.specs.Prelude.{◌≡◌, ℕ, suc, ◌-◌, ◌^◌, ◌≤◌, min, Bool, List, length, Some, None}
 use Rattle.network.specs.Sets.{chosen, standing_lanes}
 use Rattle.network.specs.declared.lanes.Lane.{Lane}
 use Rattle.reliability.specs.Reliability.{lanes_chance}
@@ -13,7 +13,7 @@ use Rattle.sheet.specs.declared.words.Call.{Call}
 use Rattle.sheet.specs.declared.words.Call.TheVariants.{Grant}
 use Rattle.sheet.specs.declared.words.Goal.{Goal}
 use Rattle.sheet.specs.declared.words.Report.{Report}
-use Rattle.sheet.specs.declared.words.State.TheVariants.{Found, NoneFound}
+use Rattle.sheet.specs.declared.words.State.TheVariants.{Drafting, Found, NoneFound}
 
 -- With a goal: the search has ended once the sum is the full count or more.
 pub record Searched (m : Model) (p : Problem) (sum : ℕ) (r : Report) : Type 0 where
@@ -33,6 +33,8 @@ pub record Searched (m : Model) (p : Problem) (sum : ℕ) (r : Report) : Type 0 
 -- The run leads from a fresh sheet to one that gives this report.
 pub record Statement (start : Model) (run : List Call) (m : Model) (r : Report) : Type 0 where
   pub searched : (goal : Goal) → m.goal ≡ Some goal → Searched m (problem m.contents m.tell goal) (sum_of start run) r
+  -- without a goal nothing has been searched, and neither found nor none is told
+  pub drafts : m.goal ≡ None → r.state ≡ Drafting
   -- the sheet in all its parts is as after one grant of the sum, or of the most that may be granted, right after the last change
   pub as_one : m ≡ after (last_change start run) (Grant (min (sum_of start run) most_granted))
 
