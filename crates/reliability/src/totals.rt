@@ -4,7 +4,7 @@ ghost use Rattle.network.specs.Networks.{depots_of};
 ghost use Rattle.reliability.specs.Questions.{Totalled};
 ghost use Rattle.reliability.specs.Totals.{Tells};
 
-use crate::chosen::choose;
+use crate::chosen::Chosen;
 use crate::factoring::SCRATCH_PLACES;
 use crate::named::Named;
 use network::{Network, Refusal};
@@ -19,7 +19,8 @@ pub fn total<V: Semiring>(network: &Network, set: u32, scratch: &mut [V]) -> Res
     if scratch.len() < SCRATCH_PLACES {
         return Err(Refusal::ScratchTooShort);
     }
-    let lanes = choose(network.lanes(), set);
+    let mut lanes = Chosen::none();
+    lanes.choose(network.lanes(), set);
     let named = Named {
         lanes: lanes.as_slice(),
         scale: network.scale(),

@@ -14,7 +14,7 @@ use Rattle.reliability.proofs.totals.total.Goals as goal
 use Rattle.reliability.proofs.totals.total.Goals.{After-as_slice}
 
 lanes_are : (g : given.Over) (c : After-as_slice g) → c.as_slice.result.now ≡ named c.args.network.now c.args.set
-lanes_are g c = c.as_slice.ensures.value ∙ c.choose-lanes.ensures ∙ ap (chosen c.args.set) c.lanes.ensures
+lanes_are g c = c.as_slice.ensures.value ∙ c.choose.ensures ∙ ap (chosen c.args.set) c.lanes.ensures
 
 pub invariant_of-named : goal.invariant_of-named
 invariant_of-named g c =
