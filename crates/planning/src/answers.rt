@@ -1,11 +1,11 @@
 // The plan of a sheet file.
 ghost use Rattle.std.specs.Prelude.{◌≡◌};
-ghost use Rattle.planning.specs.Answers.{answer_to};
+ghost use Rattle.planning.specs.Answers.{answer_to, told_by};
 ghost use Rattle.planning.specs.declared.answers.Failure.TheVariants as failures;
 
 use bounds::{Depot, Lesser, Whole};
 use network::Refusal;
-use sheet::{MOST_GRANTED, Plan, SheetRoom};
+use sheet::{MOST_GRANTED, Plan, Report, SheetRoom};
 use sheet_files::{Fault, read};
 
 // No sheet file is longer, and no later byte can change the answer.
@@ -42,6 +42,16 @@ impl From<Refusal> for Failure {
     }
 }
 
+fn tell(report: Report, full: u64) -> Planned
+    ensures { result ≡ told_by full report }
+{
+    Planned {
+        best: report.best,
+        full,
+        openings: report.openings,
+    }
+}
+
 // One grant of all openings, under the lesser of the depot and the whole bound.
 pub fn plan(room: SheetRoom, file: &[u8]) -> Result<Planned, Failure>
     ensures { result ≡ answer_to file.now }
@@ -52,10 +62,5 @@ pub fn plan(room: SheetRoom, file: &[u8]) -> Result<Planned, Failure>
     };
     let mut sheet = read(room, file, bound)?;
     sheet.grant(MOST_GRANTED)?;
-    let report = sheet.report();
-    Ok(Planned {
-        best: report.best,
-        full: sheet.network().scale().full(),
-        openings: report.openings,
-    })
+    Ok(tell(sheet.report(), sheet.network().scale().full()))
 }

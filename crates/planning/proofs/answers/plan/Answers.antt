@@ -12,5 +12,5 @@ returns-in_err-grant c =
 pub returns : goal.returns
 returns c =
     let full = c.full.ensures ∙ ap (λ s. s.parts ^ s.most) (c.scale.ensures ∙ ap (λ n. n.scale) c.network.ensures) in
-    ap₂ (λ (f : ℕ) (r : Report). Ok (told_by f r)) full c.report-report.ensures.told
+    ap Ok c.tell.ensures ∙ ap₂ (λ (f : ℕ) (r : Report). Ok (told_by f r)) full c.report.ensures.told
     ∙ plan_told c.args.file.now _ c.in_ok-sheet.ensures.told _ _ c.grant.ensures c.in_ok-grant.was
