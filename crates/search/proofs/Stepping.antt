@@ -103,6 +103,10 @@ keeps p n few (b ∷ rest) best made kept =
       counted = omega (arith, takes_work n few b rest kept.given (dropped p best b) (eqb b.undecided 0) refl, kept.counted);
     }
 
+pub keeps_many : (p : Problem) (n : ℕ) → n ≤ 20 → (w : ℕ) (x : Progress) → Kept n x → Kept n (open_many p w x)
+keeps_many p n few zero x kept = kept
+keeps_many p n few (suc w) x kept = keeps_many p n few w (open_one p x) (keeps p n few x.pending x.best x.openings kept)
+
 -- ---- the best set is one that may be asked about
 
 fits_after : (p : Problem) (n : ℕ) (b : Branch) (best : Option ℕ) → b.picked + b.undecided < 2 ^ n → best_fits n p.most best ≡ true → (drop leaf : Bool) → dropped p best b ≡ drop → best_fits n p.most (cond drop best (cond (leaf && reaches p b.picked) (Some b.picked) best)) ≡ true

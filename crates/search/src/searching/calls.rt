@@ -4,10 +4,12 @@ ghost use Rattle.network.specs.Networks.{lanes_of};
 ghost use Rattle.search.specs.Opening.{none_started, start_over};
 
 use crate::branches::Branch;
-use crate::searching::{Search, SearchRoom};
+use crate::searching::{MOST_PENDING, Search, SearchRoom};
 use network::Network;
 
 impl Search {
+    pub const MOST_PENDING: usize = MOST_PENDING;
+
     // Nothing is pending.
     pub fn new(room: SearchRoom) -> Search
         ensures { result ≡ none_started }
