@@ -74,10 +74,9 @@ fn print_search<B: Bound>(
 
 fn print_table<B>(rt: &HostRuntime, sheet: &Sheet<B>) -> anyhow::Result<()> {
     for set in 0..8 {
-        print!(rt; "set {set} ")?;
         match ask(sheet, set) {
-            Ok(row) => println!(rt; "{row}")?,
-            Err(refusal) => println!(rt; "{refusal}")?,
+            Ok(row) => println!(rt; "set {set} {row}")?,
+            Err(refusal) => println!(rt; "set {set} {refusal}")?,
         }
     }
     // as the table of lanes prints it, which asks a network: see `Row`
