@@ -75,6 +75,23 @@ pub fn none_found(openings: u32) -> Report {
     }
 }
 
+// By the call's own method, which hands it to `Sheet::call`.
+pub fn perform<B: Bound>(sheet: &mut Sheet<B>, call: Call) -> Result<(), Refusal> {
+    match call {
+        Call::Offer {
+            left,
+            right,
+            chance,
+            cost,
+        } => sheet.offer(left, right, chance, cost),
+        Call::Strike { lane } => sheet.strike(lane),
+        Call::Restore { lane } => sheet.restore(lane),
+        Call::Reprice { lane, chance, cost } => sheet.reprice(lane, chance, cost),
+        Call::StateGoal(goal) => sheet.state_goal(goal),
+        Call::Grant { openings } => sheet.grant(openings),
+    }
+}
+
 // Every call is answered as it says beside it.
 pub fn answers<B: Bound>(
     rt: &impl Abort,
@@ -82,7 +99,7 @@ pub fn answers<B: Bound>(
     calls: &[(Call, Result<(), Refusal>)],
 ) {
     for (i, (call, answer)) in calls.iter().enumerate() {
-        assert_eq!(rt; sheet.call(*call), *answer, "call {i}");
+        assert_eq!(rt; perform(sheet, *call), *answer, "call {i}");
     }
 }
 
@@ -93,7 +110,7 @@ pub fn follow<B: Bound>(
     steps: &[(Call, Report)],
 ) -> Result<(), Fail> {
     for (i, (call, report)) in steps.iter().enumerate() {
-        sheet.call(*call)?;
+        perform(sheet, *call)?;
         assert_eq!(rt; sheet.report(), *report, "step {i}");
     }
     Ok(())

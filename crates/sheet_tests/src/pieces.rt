@@ -70,20 +70,15 @@ fn compare<B: Bound + Drop>(
 }
 
 fn compare_bounds(rt: &(impl Abort + AllocGlobal), taken: Taken) -> Result<(), Fail> {
-    let plain = Place {
-        taken,
-        bound: "plain",
-    };
-    compare(rt, Plain, plain)?;
-    let bound = Lesser {
+    let under = |bound| Place { taken, bound };
+    let lesser = Lesser {
         first: Depot,
         second: Whole,
     };
-    let lesser = Place {
-        taken,
-        bound: "lesser",
-    };
-    compare(rt, bound, lesser)
+    compare(rt, Plain, under("plain"))?;
+    compare(rt, Depot, under("depot"))?;
+    compare(rt, Whole, under("whole"))?;
+    compare(rt, lesser, under("lesser"))
 }
 
 #[test]

@@ -1,7 +1,7 @@
 // A refused call in the middle of the work leaves the report and the lanes as they were.
 use crate::calls::{
-    MOST, answers, drafting, follow, found, goal, grant, holding, offer, reprice, restore, strike,
-    working,
+    MOST, answers, drafting, follow, found, goal, grant, holding, offer, perform, reprice, restore,
+    strike, working,
 };
 use crate::sheets::{open_three, open_twenty};
 use bounds::Plain;
@@ -71,7 +71,7 @@ fn in_the_middle_of_the_work(rt: HostRuntime) -> Result<(), Fail> {
     let mut sheet = open_three(&rt)?;
     to_the_middle(&rt, &mut sheet)?;
     for (call, refusal) in refused() {
-        assert_eq!(rt; sheet.call(call), Err(refusal), "{call:?}");
+        assert_eq!(rt; perform(&mut sheet, call), Err(refusal), "{call:?}");
         assert_eq!(rt; sheet.report(), holding(8, 3, 9, 8100), "{call:?}");
         assert_eq!(rt; sheet.network().lanes(), &LANES[..], "{call:?}");
     }
