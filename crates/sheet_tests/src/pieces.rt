@@ -1,6 +1,6 @@
 // Grants in uneven pieces end as one grant does, and tell the openings granted so far on the way.
 use crate::calls::seek;
-use crate::cases::Taken;
+use crate::cases::{GOALS, Taken};
 use crate::families::{each_way, offered};
 use bounds::{Bound, Depot, Lesser, Plain, Whole};
 use sheet::{Goal, Report, Sheet, State};
@@ -51,7 +51,7 @@ fn compare_goals<B: Bound>(
     sheet: &mut Sheet<B>,
     place: Place,
 ) -> Result<(), Fail> {
-    for (places, parts) in [(1, 5), (1, 8), (2, 95)] {
+    for (places, parts, _) in GOALS {
         let goal = Goal { places, parts };
         let whole = seek(sheet, goal)?;
         sheet.state_goal(goal)?;
